@@ -1,11 +1,11 @@
 -- What is written of texts and plans, as answers.
 use Rattle.std.proofs.Common.{◌≡◌, ◌≢◌, ℕ, List, Option, Some, refl, ap, ◌∙◌}
 use Rattle.std.specs.Prelude.{Result, Ok, Err, IfErr, IfOk, IsErrOf, OnOk}
-use Rattle.icescan_audit.specs.Texts.{WroteAudit, WroteAuditFront, audit_text}
+use Rattle.icescan_audit.specs.JsonLines.{WroteAuditAs, WroteAuditFrontAs, audit_told}
 use Rattle.icescan_audit.specs.declared.audit.Audit.{Audit}
-use Rattle.icescan_explain.specs.Texts.{explanation_text}
-use Rattle.icescan_explain.specs.Writing.{WroteExplanation, WroteExplanationFront}
+use Rattle.icescan_explain.specs.JsonLines.{WroteExplanationAs, WroteExplanationFrontAs, explanation_told}
 use Rattle.icescan_explain.specs.declared.manifests.Explanation.{Explanation}
+use Rattle.icescan_forms.specs.declared.format.Format.{Format}
 use Rattle.icescan_json.specs.JsonAnswers.{AnswersInJson}
 use Rattle.icescan_json.specs.declared.typed.TypedPlan.{TypedPlan}
 use Rattle.icescan_print.specs.PlanTexts.{plan_text}
@@ -109,36 +109,38 @@ gives_shown read r w (Err e) o o' all refused front = record {
   front = λ is. front_told read o o' (front is);
 }
 
-pub gives_explained : (read : Result Explanation RunFault) (r : List ℕ → Type 0) (w : Type 0)
-    (result : Result Unit RunFault) (o o' : Option (List ℕ)) → OnOk result (WroteExplanation read o o')
-    → IfErr result (MayEnd read r w) → (IsErrOf result run.Write → WroteExplanationFront read o o')
-    → GivesAnswer (as_answer (as_explanation read)) r w result o o'
-gives_explained read r w (Ok x) o o' all refused front = record {
-  written = text_told (as_explanation read) o o' (explanation_text all.0, ap as_explanation all.1, all.2);
+pub gives_explained : (form : Format) (read : Result Explanation RunFault) (r : List ℕ → Type 0) (w : Type 0)
+    (result : Result Unit RunFault) (o o' : Option (List ℕ)) → OnOk result (WroteExplanationAs form read o o')
+    → IfErr result (MayEnd read r w) → (IsErrOf result run.Write → WroteExplanationFrontAs form read o o')
+    → GivesAnswer (as_answer (as_explanation form read)) r w result o o'
+gives_explained form read r w (Ok x) o o' all refused front = record {
+  written = text_told (as_explanation form read) o o'
+      (explanation_told form all.0, ap (as_explanation form) all.1, all.2);
   refused = tt;
   front = λ is. absurd cc;
 }
-gives_explained read r w (Err e) o o' all refused front = record {
+gives_explained form read r w (Err e) o o' all refused front = record {
   written = tt;
-  refused = ends_as (λ x. as_answer (as_explanation x)) read r w e (λ f. refl) refused;
+  refused = ends_as (λ x. as_answer (as_explanation form x)) read r w e (λ f. refl) refused;
   front = λ is. let v = front is in
-      front_told (as_explanation read) o o' (explanation_text v.0, ap as_explanation v.1, v.2);
+      front_told (as_explanation form read) o o' (explanation_told form v.0, ap (as_explanation form) v.1, v.2);
 }
 
-pub gives_audited : (read : Result Audit RunFault) (r : List ℕ → Type 0) (w : Type 0) (result : Result ℕ RunFault)
-    (o o' : Option (List ℕ)) → IfOk result (λ count. WroteAudit read count o o') → IfErr result (MayEnd read r w)
-    → (IsErrOf result run.Write → WroteAuditFront read o o')
-    → GivesAnswer (as_answer (as_audit read)) r w (ended result) o o'
-gives_audited read r w (Ok count) o o' all refused front = record {
-  written = text_told (as_audit read) o o' (audit_text all.0, ap as_audit all.1, all.3);
+pub gives_audited : (form : Format) (read : Result Audit RunFault) (r : List ℕ → Type 0) (w : Type 0)
+    (result : Result ℕ RunFault) (o o' : Option (List ℕ)) → IfOk result (λ count. WroteAuditAs form read count o o')
+    → IfErr result (MayEnd read r w) → (IsErrOf result run.Write → WroteAuditFrontAs form read o o')
+    → GivesAnswer (as_answer (as_audit form read)) r w (ended result) o o'
+gives_audited form read r w (Ok count) o o' all refused front = record {
+  written = text_told (as_audit form read) o o' (audit_told form all.0, ap (as_audit form) all.1, all.3);
   refused = tt;
   front = λ is. absurd cc;
 }
-gives_audited read r w (Err e) o o' all refused front = record {
+gives_audited form read r w (Err e) o o' all refused front = record {
   written = tt;
-  refused = ends_as (λ x. as_answer (as_audit x)) read r w e (λ f. refl) refused;
+  refused = ends_as (λ x. as_answer (as_audit form x)) read r w e (λ f. refl) refused;
   front = λ is. let failed : e ≡ run.Write = cc in
-      let v = front (ap Err failed) in front_told (as_audit read) o o' (audit_text v.0, ap as_audit v.1, v.2);
+      let v = front (ap Err failed) in
+      front_told (as_audit form read) o o' (audit_told form v.0, ap (as_audit form) v.1, v.2);
 }
 
 pub still_nothing : (result : Result ℕ RunFault) (o o' : Option (List ℕ))

@@ -5,15 +5,19 @@ use Rattle.std.proofs.lemmas.Result.{IfOk-weaker, on_ok_weaker}
 use Rattle.ice_desk.specs.Given.{Giving}
 use Rattle.ice_meta.specs.declared.metadata.Target.{Target}
 use Rattle.icescan_audit.proofs.AnyFiles.{more_audits}
+use Rattle.icescan_changes.proofs.MoreGiven.{more_changes}
 use Rattle.icescan_explain.proofs.MoreGiven.{more_explanations}
+use Rattle.icescan_reachable.proofs.MoreGiven.{more_lines}
+use Rattle.icescan_reachable.specs.Given.{WroteReached}
 use Rattle.icescan_requests.proofs.GivenPlans.{more_plans}
 use Rattle.icescan_text.specs.declared.fault.RunFault.{RunFault}
 use Rattle.icescan_text.specs.declared.request.Request.{Request}
-use Rattle.icescan_words.specs.declared.answer_format.Format.{Format}
-use Rattle.icescan_words.specs.declared.answer_format.Format.TheVariants as format
+use Rattle.icescan_forms.specs.declared.format.Format.{Format}
+use Rattle.icescan_forms.specs.declared.format.Format.TheVariants as format
 use Rattle.icescan_words.specs.declared.command.Command.TheVariants as command
 use Rattle.icescan_words.specs.declared.command.Source.{Source}
 use Rattle.icescan_words.specs.declared.command.Source.TheVariants as source
+use Rattle.icescan_commands.specs.Reading.{WroteChanged}
 use Rattle.icescan_commands.specs.Reading.{AreGivenBelow, GivingBelow, WroteAudited, WroteColumns, WroteExplained}
 use Rattle.icescan_commands.specs.Reading.{WroteOfGiven, WrotePlanAt, WroteShown}
 use Rattle.icescan_commands.specs.Runs.{ended}
@@ -67,21 +71,30 @@ plan_more gives more wider path request format.Json o o' w =
     )
 
 audit_more : (gives more : Giving) → ((path : List ℕ) (found : Option (List ℕ)) → gives path found → more path found)
-    → (path : List ℕ) (target : Target) (count : ℕ) (o o' : Option (List ℕ))
-    → WroteAudited gives path target count o o' → WroteAudited more path target count o o'
-audit_more gives more wider path target count o o' (metadata, read, (audit, is, counted, wrote)) = (
+    → (form : Format) (path : List ℕ) (target : Target) (count : ℕ) (o o' : Option (List ℕ))
+    → WroteAudited form gives path target count o o' → WroteAudited form more path target count o o'
+audit_more gives more wider form path target count o o' (metadata, read, (audit, is, counted, wrote)) = (
   metadata,
   wider path _ read,
   (audit, more_audits gives more wider metadata target audit is, counted, wrote),
 )
 
 explain_more : (gives more : Giving) → ((path : List ℕ) (found : Option (List ℕ)) → gives path found → more path found)
-    → (path : List ℕ) (request : Request) (o o' : Option (List ℕ)) → WroteExplained gives path request o o'
-    → WroteExplained more path request o o'
-explain_more gives more wider path request o o' (metadata, read, (x, is, wrote)) = (
+    → (form : Format) (path : List ℕ) (request : Request) (o o' : Option (List ℕ))
+    → WroteExplained form gives path request o o' → WroteExplained form more path request o o'
+explain_more gives more wider form path request o o' (metadata, read, (x, is, wrote)) = (
   metadata,
   wider path _ read,
   (x, more_explanations gives more wider metadata request x is, wrote),
+)
+
+changes_more : (gives more : Giving) → ((path : List ℕ) (found : Option (List ℕ)) → gives path found → more path found)
+    → (path : List ℕ) (target : Target) (request : Request) (o o' : Option (List ℕ))
+    → WroteChanged gives path target request o o' → WroteChanged more path target request o o'
+changes_more gives more wider path target request o o' (metadata, read, (text, is, wrote)) = (
+  metadata,
+  wider path _ read,
+  (text, more_changes gives more wider metadata target request text is, wrote),
 )
 
 module _ (below : GivingBelow) where
@@ -93,34 +106,50 @@ module _ (below : GivingBelow) where
   plan_below (source.Folder place) gives wider path request form workers result o o' wrote =
       on_ok_weaker result (plan_more gives (below place.folder place.prefix) wider path request form o o') wrote
 
-  pub show_below : (from : Source) (gives : Giving) → AreGivenBelow below from gives → (path : List ℕ)
-      (result : Result Unit RunFault) (o o' : Option (List ℕ)) → OnOk result (WroteShown gives path o o')
-      → OnOk result (WroteOfGiven below (command.Show from path) 0 o o')
-  show_below source.Bundle gives wider path result o o' wrote = any_ok result
-  show_below (source.Folder place) gives wider path result o o' wrote =
+  pub show_below : (from : Source) (gives : Giving) → AreGivenBelow below from gives → (form : Format)
+      (path : List ℕ) (result : Result Unit RunFault) (o o' : Option (List ℕ))
+      → OnOk result (WroteShown form gives path o o')
+      → OnOk result (WroteOfGiven below (command.Show from form path) 0 o o')
+  show_below source.Bundle gives wider form path result o o' wrote = any_ok result
+  show_below (source.Folder place) gives wider form path result o o' wrote =
       on_ok_weaker result (λ w. (w.0, wider path _ w.1, w.2)) wrote
 
-  pub columns_below : (from : Source) (gives : Giving) → AreGivenBelow below from gives → (path : List ℕ)
-      (target : Target) (result : Result Unit RunFault) (o o' : Option (List ℕ))
-      → OnOk result (WroteColumns gives path target o o')
-      → OnOk result (WroteOfGiven below (command.Columns from target path) 0 o o')
-  columns_below source.Bundle gives wider path target result o o' wrote = any_ok result
-  columns_below (source.Folder place) gives wider path target result o o' wrote =
+  pub columns_below : (from : Source) (gives : Giving) → AreGivenBelow below from gives → (form : Format)
+      (path : List ℕ) (target : Target) (result : Result Unit RunFault) (o o' : Option (List ℕ))
+      → OnOk result (WroteColumns form gives path target o o')
+      → OnOk result (WroteOfGiven below (command.Columns from target form path) 0 o o')
+  columns_below source.Bundle gives wider form path target result o o' wrote = any_ok result
+  columns_below (source.Folder place) gives wider form path target result o o' wrote =
       on_ok_weaker result (λ w. (w.0, wider path _ w.1, w.2)) wrote
 
-  pub audit_below : (from : Source) (gives : Giving) → AreGivenBelow below from gives → (path : List ℕ)
-      (target : Target) (workers : ℕ) (result : Result ℕ RunFault) (o o' : Option (List ℕ))
-      → IfOk result (λ count. WroteAudited gives path target count o o')
-      → IfOk result (λ count. WroteOfGiven below (command.Audit from target workers path) count o o')
-  audit_below source.Bundle gives wider path target workers result o o' wrote = any_count result
-  audit_below (source.Folder place) gives wider path target workers result o o' wrote =
+  pub reachable_below : (from : Source) (gives : Giving) → AreGivenBelow below from gives → (path : List ℕ)
+      (result : Result Unit RunFault) (o o' : Option (List ℕ)) → OnOk result (WroteReached gives path o o')
+      → OnOk result (WroteOfGiven below (command.Reachable from path) 0 o o')
+  reachable_below source.Bundle gives wider path result o o' wrote = any_ok result
+  reachable_below (source.Folder place) gives wider path result o o' wrote =
+      on_ok_weaker result (λ w. (w.0, more_lines gives (below place.folder place.prefix) wider path w.0 w.1, w.2)) wrote
+
+  pub audit_below : (from : Source) (gives : Giving) → AreGivenBelow below from gives → (form : Format)
+      (path : List ℕ) (target : Target) (workers : ℕ) (result : Result ℕ RunFault) (o o' : Option (List ℕ))
+      → IfOk result (λ count. WroteAudited form gives path target count o o')
+      → IfOk result (λ count. WroteOfGiven below (command.Audit from target form workers path) count o o')
+  audit_below source.Bundle gives wider form path target workers result o o' wrote = any_count result
+  audit_below (source.Folder place) gives wider form path target workers result o o' wrote =
       IfOk-weaker result _ _
-      (λ count w. audit_more gives (below place.folder place.prefix) wider path target count o o' w) wrote
+      (λ count w. audit_more gives (below place.folder place.prefix) wider form path target count o o' w) wrote
 
-  pub explain_below : (from : Source) (gives : Giving) → AreGivenBelow below from gives → (path : List ℕ)
-      (request : Request) (workers : ℕ) (result : Result Unit RunFault) (o o' : Option (List ℕ))
-      → OnOk result (WroteExplained gives path request o o')
-      → OnOk result (WroteOfGiven below (command.Explain from request workers path) 0 o o')
-  explain_below source.Bundle gives wider path request workers result o o' wrote = any_ok result
-  explain_below (source.Folder place) gives wider path request workers result o o' wrote =
-      on_ok_weaker result (explain_more gives (below place.folder place.prefix) wider path request o o') wrote
+  pub explain_below : (from : Source) (gives : Giving) → AreGivenBelow below from gives → (form : Format)
+      (path : List ℕ) (request : Request) (workers : ℕ) (result : Result Unit RunFault) (o o' : Option (List ℕ))
+      → OnOk result (WroteExplained form gives path request o o')
+      → OnOk result (WroteOfGiven below (command.Explain from request form workers path) 0 o o')
+  explain_below source.Bundle gives wider form path request workers result o o' wrote = any_ok result
+  explain_below (source.Folder place) gives wider form path request workers result o o' wrote =
+      on_ok_weaker result (explain_more gives (below place.folder place.prefix) wider form path request o o') wrote
+
+  pub changes_below : (from : Source) (gives : Giving) → AreGivenBelow below from gives → (path : List ℕ)
+      (target : Target) (request : Request) (workers : ℕ) (result : Result Unit RunFault) (o o' : Option (List ℕ))
+      → OnOk result (WroteChanged gives path target request o o')
+      → OnOk result (WroteOfGiven below (command.Changes from target request workers path) 0 o o')
+  changes_below source.Bundle gives wider path target request workers result o o' wrote = any_ok result
+  changes_below (source.Folder place) gives wider path target request workers result o o' wrote =
+      on_ok_weaker result (changes_more gives (below place.folder place.prefix) wider path target request o o') wrote

@@ -11,7 +11,7 @@ use Rattle.icescan_commands.specs.Answers.{Answer}
 use Rattle.icescan_commands.specs.Runs.{MayRefuse, Ran, ended, list_in, list_plan_in, list_planned, or_first_line}
 use Rattle.icescan_commands.specs.Sources.{Below, Failing, failing_bundle, failing_unread}
 use Rattle.icescan_words.specs.CommandLines.{IsWordsFault}
-use Rattle.icescan_words.specs.declared.answer_format.Format.{Format}
+use Rattle.icescan_forms.specs.declared.format.Format.{Format}
 use Rattle.icescan_words.specs.declared.command.Lists.TheVariants as lists
 
 -- a bundle is refused for a line of it

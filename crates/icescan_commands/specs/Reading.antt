@@ -3,16 +3,18 @@
 use Rattle.std.specs.Prelude.{ℕ, List, Option, Some, Result, Ok, Err}
 use Rattle.ice_desk.specs.Given.{Giving}
 use Rattle.ice_meta.specs.declared.metadata.Target.{Target}
-use Rattle.icescan_audit.specs.AnyFiles.{WroteAnAudit}
-use Rattle.icescan_columns.specs.Columns.{columns_of}
-use Rattle.icescan_explain.specs.AnyFiles.{WroteAnExplanation}
+use Rattle.icescan_audit.specs.JsonLines.{WroteAnAuditAs}
+use Rattle.icescan_changes.specs.Answers.{WroteChangesOfGiven}
+use Rattle.icescan_columns.specs.Columns.{columns_json_of, columns_of, shown_json_of}
+use Rattle.icescan_explain.specs.JsonLines.{WroteAnExplanationAs}
 use Rattle.icescan_json.specs.JsonAnswers.{IsTypedListOfGiven, IsTypedOfGivenAt, WroteJsonThat}
+use Rattle.icescan_reachable.specs.Given.{WroteReached}
 use Rattle.icescan_requests.specs.GivenPlans.{IsListPlanOfGiven, IsPlanOfGivenAt, WrotePlanThat}
 use Rattle.icescan_requests.specs.Shows.{WroteText, show_of}
 use Rattle.icescan_text.specs.declared.fault.RunFault.{RunFault}
 use Rattle.icescan_text.specs.declared.request.Request.{Request}
-use Rattle.icescan_words.specs.declared.answer_format.Format.{Format}
-use Rattle.icescan_words.specs.declared.answer_format.Format.TheVariants as format
+use Rattle.icescan_forms.specs.declared.format.Format.{Format}
+use Rattle.icescan_forms.specs.declared.format.Format.TheVariants as format
 use Rattle.icescan_words.specs.declared.command.Command.{Command}
 use Rattle.icescan_words.specs.declared.command.Command.TheVariants as command
 use Rattle.icescan_words.specs.declared.command.Lists.TheVariants as lists
@@ -45,25 +47,38 @@ WrotePlanAt gives path request format.Text output output' =
 WrotePlanAt gives path request format.Json output output' =
     WroteJsonThat (IsTypedOfGivenAt gives path request) output output'
 
--- the text of the metadata at a path
-abbrev pub WroteShown : Giving → List ℕ → Option (List ℕ) → Option (List ℕ) → Type 0
-WroteShown gives path output output' = (metadata : List ℕ) × gives path (Some metadata)
-    × WroteText (show_of metadata) output output'
+-- what the metadata at a path says, in a form
+abbrev pub shown_of : Format → List ℕ → Result (List ℕ) RunFault
+shown_of format.Text metadata = show_of metadata
+shown_of format.Json metadata = shown_json_of metadata
 
--- the columns of the metadata at a path
-abbrev pub WroteColumns : Giving → List ℕ → Target → Option (List ℕ) → Option (List ℕ) → Type 0
-WroteColumns gives path target output output' = (metadata : List ℕ) × gives path (Some metadata)
-    × WroteText (columns_of metadata target) output output'
+abbrev pub WroteShown : Format → Giving → List ℕ → Option (List ℕ) → Option (List ℕ) → Type 0
+WroteShown form gives path output output' = (metadata : List ℕ) × gives path (Some metadata)
+    × WroteText (shown_of form metadata) output output'
 
--- the audit of a snapshot of the table whose metadata is at a path, with so many faults
-abbrev pub WroteAudited : Giving → List ℕ → Target → ℕ → Option (List ℕ) → Option (List ℕ) → Type 0
-WroteAudited gives path target count output output' = (metadata : List ℕ) × gives path (Some metadata)
-    × WroteAnAudit gives metadata target count output output'
+-- the columns of the metadata at a path, in a form
+abbrev pub listed_of : Format → List ℕ → Target → Result (List ℕ) RunFault
+listed_of format.Text metadata target = columns_of metadata target
+listed_of format.Json metadata target = columns_json_of metadata target
 
--- the plan that is asked of the table whose metadata is at a path, explained
-abbrev pub WroteExplained : Giving → List ℕ → Request → Option (List ℕ) → Option (List ℕ) → Type 0
-WroteExplained gives path request output output' = (metadata : List ℕ) × gives path (Some metadata)
-    × WroteAnExplanation gives metadata request output output'
+abbrev pub WroteColumns : Format → Giving → List ℕ → Target → Option (List ℕ) → Option (List ℕ) → Type 0
+WroteColumns form gives path target output output' = (metadata : List ℕ) × gives path (Some metadata)
+    × WroteText (listed_of form metadata target) output output'
+
+-- the audit of a snapshot of the table whose metadata is at a path, in a form, with so many faults
+abbrev pub WroteAudited : Format → Giving → List ℕ → Target → ℕ → Option (List ℕ) → Option (List ℕ) → Type 0
+WroteAudited form gives path target count output output' = (metadata : List ℕ) × gives path (Some metadata)
+    × WroteAnAuditAs form gives metadata target count output output'
+
+-- the plan that is asked of the table whose metadata is at a path, explained in a form
+abbrev pub WroteExplained : Format → Giving → List ℕ → Request → Option (List ℕ) → Option (List ℕ) → Type 0
+WroteExplained form gives path request output output' = (metadata : List ℕ) × gives path (Some metadata)
+    × WroteAnExplanationAs form gives metadata request output output'
+
+-- the changes from a snapshot to what is asked of the table whose metadata is at a path
+abbrev pub WroteChanged : Giving → List ℕ → Target → Request → Option (List ℕ) → Option (List ℕ) → Type 0
+WroteChanged gives path from request output output' = (metadata : List ℕ) × gives path (Some metadata)
+    × WroteChangesOfGiven gives metadata from request output output'
 
 -- What a command wrote that ended without a fault and told of so many faults of a table: over a folder, of bytes that
 -- reads below it gave. Of a commit `IsStored` and `IsStoredOfGiven` say more.
@@ -72,14 +87,18 @@ WroteOfGiven below (command.ListPlan (lists.Folder place list) form) count outpu
     WroteListPlan (given_at below place) list form output output'
 WroteOfGiven below (command.Plan (source.Folder place) request form workers path) count output output' =
     WrotePlanAt (given_at below place) path request form output output'
-WroteOfGiven below (command.Show (source.Folder place) path) count output output' =
-    WroteShown (given_at below place) path output output'
-WroteOfGiven below (command.Columns (source.Folder place) target path) count output output' =
-    WroteColumns (given_at below place) path target output output'
-WroteOfGiven below (command.Audit (source.Folder place) target workers path) count output output' =
-    WroteAudited (given_at below place) path target count output output'
-WroteOfGiven below (command.Explain (source.Folder place) request workers path) count output output' =
-    WroteExplained (given_at below place) path request output output'
+WroteOfGiven below (command.Show (source.Folder place) form path) count output output' =
+    WroteShown form (given_at below place) path output output'
+WroteOfGiven below (command.Audit (source.Folder place) target form workers path) count output output' =
+    WroteAudited form (given_at below place) path target count output output'
+WroteOfGiven below (command.Explain (source.Folder place) request form workers path) count output output' =
+    WroteExplained form (given_at below place) path request output output'
+WroteOfGiven below (command.Columns (source.Folder place) target form path) count output output' =
+    WroteColumns form (given_at below place) path target output output'
+WroteOfGiven below (command.Changes (source.Folder place) from request workers path) count output output' =
+    WroteChanged (given_at below place) path from request output output'
+WroteOfGiven below (command.Reachable (source.Folder place) path) count output output' =
+    WroteReached (given_at below place) path output output'
 WroteOfGiven below _ count output output' = Unit {0}
 
 -- the same of words that were read

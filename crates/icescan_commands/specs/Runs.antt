@@ -4,9 +4,10 @@ use Rattle.std.specs.Prelude.{IfOk, IfErr, IsErrOf, if◌then◌else◌, Bool, t
 use Rattle.contract_words.specs.Outcome.{◌>>=◌}
 use Rattle.icescan_audit_findings.specs.Telling.{faults}
 use Rattle.icescan_audit.specs.Audits.{audit_at, audit_reads_at}
-use Rattle.icescan_audit.specs.Texts.{audit_text}
+use Rattle.icescan_audit.specs.JsonLines.{audit_told}
 use Rattle.icescan_audit.specs.declared.audit.Audit.{Audit}
-use Rattle.icescan_columns.specs.Columns.{columns_at}
+use Rattle.icescan_changes.specs.Answers.{changes_at, changes_reads_at}
+use Rattle.icescan_columns.specs.Columns.{columns_at, columns_json_at, shown_json_at}
 use Rattle.icescan_commands.specs.Answers.{Answer, WroteAnswer, WroteAnswerFront, as_answer, as_json, plain}
 use Rattle.icescan_json.specs.JsonAnswers.{typed_answer_at, typed_list_answer}
 use Rattle.icescan_commands.specs.Sources.{Below, Failing, MayFailBelow, failing_bundle, failing_over, failing_place}
@@ -14,7 +15,7 @@ use Rattle.icescan_commands.specs.Sources.{failing_unread, over, world_at}
 use Rattle.icescan_commands.specs.Reading.{GivingBelow, WroteOfGivenBy}
 use Rattle.icescan_commands.specs.Storing.{IsStoredBy, IsStoredOfGivenBy, MayFailToPut, Stored}
 use Rattle.icescan_explain.specs.Explanations.{explained_at}
-use Rattle.icescan_explain.specs.Texts.{explanation_text}
+use Rattle.icescan_explain.specs.JsonLines.{explanation_told}
 use Rattle.icescan_explain.specs.declared.manifests.Explanation.{Explanation}
 use Rattle.ice_meta.specs.declared.metadata.Target.{Target}
 use Rattle.ice_state.specs.Lines.{OwnedLine}
@@ -31,8 +32,8 @@ use Rattle.icescan_print.specs.Written.{Appends, AppendsFront}
 use Rattle.icescan_progress.specs.Hints.{AppendsPlain}
 use Rattle.ice_state.specs.Contents.{World}
 use Rattle.icescan_words.specs.CommandLines.{ReadAs}
-use Rattle.icescan_words.specs.declared.answer_format.Format.{Format}
-use Rattle.icescan_words.specs.declared.answer_format.Format.TheVariants as format
+use Rattle.icescan_forms.specs.declared.format.Format.{Format}
+use Rattle.icescan_forms.specs.declared.format.Format.TheVariants as format
 use Rattle.icescan_words.specs.declared.command.Lists.{Lists}
 use Rattle.icescan_words.specs.declared.command.Lists.TheVariants as lists
 use Rattle.icescan_words.specs.declared.command.Source.{Source}
@@ -78,28 +79,33 @@ plan_in format.Text world path request workers =
     as_answer (as_text (answer_at over_wanted_rows world path request workers))
 plan_in format.Json world path request workers = as_json (typed_answer_at over_wanted_rows world path request workers)
 
--- the text of an audit, and of an explanation
-abbrev pub as_audit : Result Audit RunFault → Result (List ℕ) RunFault
-as_audit (Ok audit) = Ok (audit_text audit)
-as_audit (Err fault) = Err fault
+-- an audit, and an explanation, in a form
+abbrev pub as_audit : Format → Result Audit RunFault → Result (List ℕ) RunFault
+as_audit form (Ok audit) = Ok (audit_told form audit)
+as_audit form (Err fault) = Err fault
 
-abbrev pub as_explanation : Result Explanation RunFault → Result (List ℕ) RunFault
-as_explanation (Ok x) = Ok (explanation_text x)
-as_explanation (Err fault) = Err fault
+abbrev pub as_explanation : Format → Result Explanation RunFault → Result (List ℕ) RunFault
+as_explanation form (Ok x) = Ok (explanation_told form x)
+as_explanation form (Err fault) = Err fault
 
--- the text of the metadata at a path, that of the columns that a filter names, that of an audit, and that of an
--- explained plan
-abbrev pub show_in : World → List ℕ → Result Answer RunFault
-show_in world path = as_answer (shown_at world path)
+-- in a form: what the metadata at a path says, the columns that a filter names, an audit, and an explained plan
+abbrev pub show_in : Format → World → List ℕ → Result Answer RunFault
+show_in format.Text world path = as_answer (shown_at world path)
+show_in format.Json world path = as_answer (shown_json_at world path)
 
-abbrev pub columns_told : World → List ℕ → Target → Result Answer RunFault
-columns_told world path target = as_answer (columns_at world path target)
+abbrev pub columns_told : Format → World → List ℕ → Target → Result Answer RunFault
+columns_told format.Text world path target = as_answer (columns_at world path target)
+columns_told format.Json world path target = as_answer (columns_json_at world path target)
 
-abbrev pub audit_in : World → List ℕ → Target → ℕ → Result Answer RunFault
-audit_in world path target workers = as_answer (as_audit (audit_at world path target workers))
+abbrev pub audit_in : Format → World → List ℕ → Target → ℕ → Result Answer RunFault
+audit_in form world path target workers = as_answer (as_audit form (audit_at world path target workers))
 
-abbrev pub explain_in : World → List ℕ → Request → ℕ → Result Answer RunFault
-explain_in world path request workers = as_answer (as_explanation (explained_at world path request workers))
+abbrev pub explain_in : Format → World → List ℕ → Request → ℕ → Result Answer RunFault
+explain_in form world path request workers = as_answer (as_explanation form (explained_at world path request workers))
+
+-- the text of the changes from a snapshot to what is asked
+abbrev pub changes_told : World → List ℕ → Target → Request → ℕ → Result Answer RunFault
+changes_told world path from request workers = as_answer (changes_at world path from request workers)
 
 -- the text of a commit to a table in a bundle, where it is told; of a commit to a folder `commitment` says more
 abbrev pub commit_told : Source → CommitRequest → List ℕ → Option (Result Answer RunFault)
@@ -113,14 +119,17 @@ answer_to below (command.ListPlan lists form) input = list_planned below lists f
 answer_to below (command.Plan source request form workers path) input =
     over below source (λ world. plan_in form world path request workers) input
 answer_to below (command.Commit source request) input = commit_told source request input
-answer_to below (command.Show source path) input = over below source (λ world. show_in world path) input
-answer_to below (command.Columns source target path) input =
-    over below source (λ world. columns_told world path target) input
-answer_to below (command.Audit source target workers path) input =
-    over below source (λ world. audit_in world path target workers) input
-answer_to below (command.Explain source request workers path) input =
-    over below source (λ world. explain_in world path request workers) input
+answer_to below (command.Show source form path) input = over below source (λ world. show_in form world path) input
+answer_to below (command.Columns source target form path) input =
+    over below source (λ world. columns_told form world path target) input
+answer_to below (command.Audit source target form workers path) input =
+    over below source (λ world. audit_in form world path target workers) input
+answer_to below (command.Explain source request form workers path) input =
+    over below source (λ world. explain_in form world path request workers) input
+answer_to below (command.Changes source from request workers path) input =
+    over below source (λ world. changes_told world path from request workers) input
 answer_to below (command.Locate folder form) input = None
+answer_to below (command.Reachable source path) input = None
 answer_to below (command.Drill asked) input = None
 answer_to below (command.Text text) input = Some (Ok (plain text))
 
@@ -136,15 +145,18 @@ failing_of below may_fail (command.ListPlan lists form) write = failing_list bel
 failing_of below may_fail (command.Plan source request form workers path) write =
     failing_over below may_fail source (λ world. reads_at world path request) write
 failing_of below may_fail (command.Commit source request) write = failing_bundle write
-failing_of below may_fail (command.Show source path) write =
+failing_of below may_fail (command.Show source form path) write =
     failing_over below may_fail source (λ world. path ∷ []) write
-failing_of below may_fail (command.Columns source target path) write =
+failing_of below may_fail (command.Columns source target form path) write =
     failing_over below may_fail source (λ world. path ∷ []) write
-failing_of below may_fail (command.Audit source target workers path) write =
+failing_of below may_fail (command.Audit source target form workers path) write =
     failing_over below may_fail source (λ world. audit_reads_at world path target) write
-failing_of below may_fail (command.Explain source request workers path) write =
+failing_of below may_fail (command.Explain source request form workers path) write =
     failing_over below may_fail source (λ world. reads_at world path request) write
+failing_of below may_fail (command.Changes source from request workers path) write =
+    failing_over below may_fail source (λ world. changes_reads_at world path from request) write
 failing_of below may_fail (command.Locate folder form) write = failing_unread write
+failing_of below may_fail (command.Reachable source path) write = failing_unread write
 failing_of below may_fail (command.Drill asked) write = failing_unread write
 failing_of below may_fail (command.Text text) write = failing_unread write
 
@@ -164,7 +176,7 @@ failing_run below may_fail (Err fault) write = failing_unread write
 -- the number of findings that are faults of which a command tells: an audit of its own, where its files are known; any
 -- other of none
 abbrev pub IsCount : Below → Command → List ℕ → ℕ → Type 0
-IsCount below (command.Audit source target workers path) input count =
+IsCount below (command.Audit source target form workers path) input count =
     IfSome (over below source (λ world. audit_at world path target workers) input)
     (λ (read : Result Audit RunFault). IfOk read (λ (audit : Audit). count ≡ length (faults audit.findings)))
 IsCount below _ input count = count ≡ 0

@@ -7,30 +7,33 @@ ghost use Rattle.icescan_commands.specs.Runs.{IsCount, Ran, answer_to, ended, fa
 ghost use Rattle.icescan_commands.specs.Sources.{failing_bundle, failing_unread};
 ghost use Rattle.icescan_commands.specs.Storing.{IsStored, IsStoredOfGiven};
 ghost use Rattle.icescan_drill.specs.Drills.{WroteDrill};
+ghost use Rattle.icescan_locate.specs.Dated.{WroteDated};
 ghost use Rattle.icescan_locate.specs.Located.{WroteLocated};
+ghost use Rattle.icescan_text.specs.declared.request.Separator.{Separator};
 ghost use Rattle.icescan_files.specs.Bundles.{IsInput, bundle_of};
 ghost use Rattle.icescan_commits.specs.Commits.{committed_text};
 ghost use Rattle.icescan_text.specs.declared.fault.RunFault.{RunFault};
 ghost use Rattle.icescan_words.specs.declared.command.Command.{Command};
 
 use crate::commit_lines::commit_lines;
-use crate::forms::{write_list_plan, write_plan};
+use crate::forms::{
+    write_audit, write_columns, write_explained, write_list_plan, write_plan, write_shown,
+};
 use crate::system::System;
 use crate::table_files::{open_files, watched_files};
 use contract_words::Text;
 use ice_meta::Target;
-use icescan_audit::audit_file;
-use icescan_columns::columns_file;
+use icescan_changes::changes_file;
 use icescan_commits::{commit_to, prepare_commit};
 use icescan_drill::{Watch, run_drill};
-use icescan_explain::explain_file;
 use icescan_files::{Bundle, Folders, Stores, read_bundle};
-use icescan_locate::locate_folder;
+use icescan_forms::Format;
+use icescan_locate::{locate_all, locate_folder};
 use icescan_print::{Sink, write_all};
 use icescan_progress::Progress;
-use icescan_requests::show_file;
-use icescan_text::{CommitRequest, Drill, Request, RunFault, Separator};
-use icescan_words::{Command, Format, Lists, Source};
+use icescan_reachable::reachable_file;
+use icescan_text::{CommitRequest, Drill, Request, RunFault};
+use icescan_words::{Command, Lists, Located, Source};
 use std::alloc::Global;
 use std::io::Read;
 use std::sync::Wait;
@@ -116,54 +119,77 @@ pub fn plan<H: Threads + Sync, S: Folders + Sync, P: Progress + Sync, R: Read, W
     )
 }
 
-/// Writes the text of a table's metadata.
+/// Writes what a table's metadata says, in a form.
 pub fn show<H, S: Folders, P: Progress, R: Read, W: Sink>(
     system: &System<'_, H, S, P>,
     table: &TableAt<'_>,
-    input: &mut R,
-    output: &mut W,
-) -> Result<(), RunFault>
-    requires { P.may_be_told system.now.progress.now ≡ true }
-    ensures ran { (text : List ℕ) × IsInput (R.remaining input.old) text ×
-        Ran (answer_to (S.below system.now.folders.now) (Command.Show table.now.source.now table.now.path.now) text)
-        (failing_of (S.below system.now.folders.now) (S.may_fail system.now.folders.now)
-        (Command.Show table.now.source.now table.now.path.now) (W.may_fail output.old))
-        result (W.taken output.old) (W.taken output.new) }
-    ensures given { OnOk result (WroteOfGiven (S.gives system.now.folders.now)
-        (Command.Show table.now.source.now table.now.path.now) 0 (W.taken output.old) (W.taken output.new)) }
-{
-    let files = open_files(system, table.source, input)?;
-    show_file(system.alloc, &files, table.path.as_str(), output)
-}
-
-/// Writes the columns that a filter of a snapshot of a table names.
-pub fn columns<H, S: Folders, P: Progress, R: Read, W: Sink>(
-    system: &System<'_, H, S, P>,
-    table: &TableAt<'_>,
-    target: &Target,
+    format: Format,
     input: &mut R,
     output: &mut W,
 ) -> Result<(), RunFault>
     requires { P.may_be_told system.now.progress.now ≡ true }
     ensures ran { (text : List ℕ) × IsInput (R.remaining input.old) text ×
         Ran (answer_to (S.below system.now.folders.now)
-        (Command.Columns table.now.source.now target.now table.now.path.now) text)
+        (Command.Show table.now.source.now format table.now.path.now) text)
         (failing_of (S.below system.now.folders.now) (S.may_fail system.now.folders.now)
-        (Command.Columns table.now.source.now target.now table.now.path.now) (W.may_fail output.old))
+        (Command.Show table.now.source.now format table.now.path.now) (W.may_fail output.old))
         result (W.taken output.old) (W.taken output.new) }
     ensures given { OnOk result (WroteOfGiven (S.gives system.now.folders.now)
-        (Command.Columns table.now.source.now target.now table.now.path.now) 0 (W.taken output.old)
+        (Command.Show table.now.source.now format table.now.path.now) 0 (W.taken output.old) (W.taken output.new)) }
+{
+    let files = open_files(system, table.source, input)?;
+    let path = table.path.as_str();
+    write_shown(system.alloc, &files, path, format, output)
+}
+
+/// Writes the columns that a filter of a snapshot of a table names, in a form.
+pub fn columns<H, S: Folders, P: Progress, R: Read, W: Sink>(
+    system: &System<'_, H, S, P>,
+    table: &TableAt<'_>,
+    target: &Target,
+    format: Format,
+    input: &mut R,
+    output: &mut W,
+) -> Result<(), RunFault>
+    requires { P.may_be_told system.now.progress.now ≡ true }
+    ensures ran { (text : List ℕ) × IsInput (R.remaining input.old) text ×
+        Ran (answer_to (S.below system.now.folders.now)
+        (Command.Columns table.now.source.now target.now format table.now.path.now) text)
+        (failing_of (S.below system.now.folders.now) (S.may_fail system.now.folders.now)
+        (Command.Columns table.now.source.now target.now format table.now.path.now) (W.may_fail output.old))
+        result (W.taken output.old) (W.taken output.new) }
+    ensures given { OnOk result (WroteOfGiven (S.gives system.now.folders.now)
+        (Command.Columns table.now.source.now target.now format table.now.path.now) 0 (W.taken output.old)
         (W.taken output.new)) }
 {
     let files = open_files(system, table.source, input)?;
-    columns_file(system.alloc, &files, table.path.as_str(), target, output)
+    let path = table.path.as_str();
+    write_columns(system.alloc, &files, path, target, format, output)
 }
 
-/// Writes the audit of a snapshot of a table, by so many workers, and gives the number of findings that are faults.
+/// Writes the files that a table reaches.
+pub fn reachable<H, S: Folders, P: Progress, R: Read, W: Sink>(
+    system: &System<'_, H, S, P>,
+    table: &TableAt<'_>,
+    input: &mut R,
+    output: &mut W,
+) -> Result<(), RunFault>
+    requires { P.may_be_told system.now.progress.now ≡ true }
+    ensures ran { Ran None (failing_unread (W.may_fail output.old)) result (W.taken output.old) (W.taken output.new) }
+    ensures given { OnOk result (WroteOfGiven (S.gives system.now.folders.now)
+        (Command.Reachable table.now.source.now table.now.path.now) 0 (W.taken output.old) (W.taken output.new)) }
+{
+    let files = open_files(system, table.source, input)?;
+    reachable_file(system.alloc, &files, table.path.as_str(), output)
+}
+
+/// Writes the audit of a snapshot of a table, in a form and by so many workers, and gives the number of findings that are
+/// faults.
 pub fn audit<H: Threads + Sync, S: Folders + Sync, P: Progress + Sync, R: Read, W: Sink>(
     system: &System<'_, H, S, P>,
     table: &TableAt<'_>,
     target: &Target,
+    format: Format,
     workers: usize,
     input: &mut R,
     output: &mut W,
@@ -171,32 +197,53 @@ pub fn audit<H: Threads + Sync, S: Folders + Sync, P: Progress + Sync, R: Read, 
     requires { P.may_be_told system.now.progress.now ≡ true }
     ensures ran { (text : List ℕ) × IsInput (R.remaining input.old) text ×
         Ran (answer_to (S.below system.now.folders.now)
-        (Command.Audit table.now.source.now target.now workers table.now.path.now) text)
+        (Command.Audit table.now.source.now target.now format workers table.now.path.now) text)
         (failing_of (S.below system.now.folders.now) (S.may_fail system.now.folders.now)
-        (Command.Audit table.now.source.now target.now workers table.now.path.now) (W.may_fail output.old))
+        (Command.Audit table.now.source.now target.now format workers table.now.path.now) (W.may_fail output.old))
         (ended result) (W.taken output.old) (W.taken output.new)
         × IfOk result (IsCount (S.below system.now.folders.now)
-        (Command.Audit table.now.source.now target.now workers table.now.path.now) text) }
+        (Command.Audit table.now.source.now target.now format workers table.now.path.now) text) }
     ensures given { IfOk result (λ count. WroteOfGiven (S.gives system.now.folders.now)
-        (Command.Audit table.now.source.now target.now workers table.now.path.now) count (W.taken output.old)
+        (Command.Audit table.now.source.now target.now format workers table.now.path.now) count (W.taken output.old)
         (W.taken output.new)) }
 {
     let files = open_files(system, table.source, input)?;
-    audit_file(
-        system.host,
-        system.alloc,
-        &files,
-        table.path.as_str(),
-        target,
-        workers,
-        output,
-    )
+    let path = table.path.as_str();
+    write_audit(system, &files, path, target, format, workers, output)
 }
 
-/// Writes the plan that is asked of a table, by so many workers, with what became of each manifest and each live file.
+/// Writes the plan that is asked of a table, by so many workers, with what became of each manifest and each live file, in a
+/// form.
 pub fn explain<H, S: Folders, P: Progress, R: Read, W: Sink>(
     system: &System<'_, H, S, P>,
     table: &TableAt<'_>,
+    request: &Request,
+    format: Format,
+    workers: usize,
+    input: &mut R,
+    output: &mut W,
+) -> Result<(), RunFault>
+    requires { P.may_be_told system.now.progress.now ≡ true }
+    ensures ran { (text : List ℕ) × IsInput (R.remaining input.old) text ×
+        Ran (answer_to (S.below system.now.folders.now)
+        (Command.Explain table.now.source.now request.now format workers table.now.path.now) text)
+        (failing_of (S.below system.now.folders.now) (S.may_fail system.now.folders.now)
+        (Command.Explain table.now.source.now request.now format workers table.now.path.now) (W.may_fail output.old))
+        result (W.taken output.old) (W.taken output.new) }
+    ensures given { OnOk result (WroteOfGiven (S.gives system.now.folders.now)
+        (Command.Explain table.now.source.now request.now format workers table.now.path.now) 0 (W.taken output.old)
+        (W.taken output.new)) }
+{
+    let files = open_files(system, table.source, input)?;
+    let path = table.path.as_str();
+    write_explained(system.alloc, &files, path, request, format, workers, output)
+}
+
+/// Writes the changes from a snapshot of a table to the plan that is asked of it, by so many workers.
+pub fn changes<H: Threads + Sync, S: Folders + Sync, P: Progress + Sync, R: Read, W: Sink>(
+    system: &System<'_, H, S, P>,
+    table: &TableAt<'_>,
+    from: &Target,
     request: &Request,
     workers: usize,
     input: &mut R,
@@ -205,19 +252,21 @@ pub fn explain<H, S: Folders, P: Progress, R: Read, W: Sink>(
     requires { P.may_be_told system.now.progress.now ≡ true }
     ensures ran { (text : List ℕ) × IsInput (R.remaining input.old) text ×
         Ran (answer_to (S.below system.now.folders.now)
-        (Command.Explain table.now.source.now request.now workers table.now.path.now) text)
+        (Command.Changes table.now.source.now from.now request.now workers table.now.path.now) text)
         (failing_of (S.below system.now.folders.now) (S.may_fail system.now.folders.now)
-        (Command.Explain table.now.source.now request.now workers table.now.path.now) (W.may_fail output.old))
+        (Command.Changes table.now.source.now from.now request.now workers table.now.path.now) (W.may_fail output.old))
         result (W.taken output.old) (W.taken output.new) }
     ensures given { OnOk result (WroteOfGiven (S.gives system.now.folders.now)
-        (Command.Explain table.now.source.now request.now workers table.now.path.now) 0 (W.taken output.old)
+        (Command.Changes table.now.source.now from.now request.now workers table.now.path.now) 0 (W.taken output.old)
         (W.taken output.new)) }
 {
     let files = open_files(system, table.source, input)?;
-    explain_file(
+    changes_file(
+        system.host,
         system.alloc,
         &files,
         table.path.as_str(),
+        from,
         request,
         workers,
         output,
@@ -291,25 +340,29 @@ pub fn tell<W: Sink>(text: &Text, output: &mut W) -> Result<(), RunFault>
     Ok(())
 }
 
-/// Writes the words of the table in a folder.
+/// Writes the words of the table in a folder, or each of its metadata files.
 pub fn locate<H, S: Folders, P, W: Sink>(
     system: &System<'_, H, S, P>,
     folder: &Text,
-    separator: Separator,
+    located: Located,
     output: &mut W,
 ) -> Result<(), RunFault>
     ensures ran { Ran None (failing_unread (W.may_fail output.old)) result (W.taken output.old) (W.taken output.new) }
-    ensures located { OnOk result (WroteLocated (S.lists system.now.folders.now)
+    ensures located { (separator : Separator) → located ≡ Located.Newest separator →
+        OnOk result (WroteLocated (S.lists system.now.folders.now)
         (S.gives system.now.folders.now folder.now folder.now) folder.now separator (W.taken output.old)
         (W.taken output.new)) }
+    ensures all { located ≡ Located.All → OnOk result (WroteDated (S.lists system.now.folders.now)
+        (S.gives system.now.folders.now folder.now folder.now) folder.now (W.taken output.old) (W.taken output.new)) }
 {
-    locate_folder(
-        system.alloc,
-        system.folders,
-        folder.as_str(),
-        separator,
-        output,
-    )
+    let alloc = system.alloc;
+    let path = folder.as_str();
+    match located {
+        Located::Newest(separator) => {
+            locate_folder(alloc, system.folders, path, separator, output)
+        }
+        Located::All => locate_all(alloc, system.folders, path, output),
+    }
 }
 
 /// Drills, and writes what is told of the table.

@@ -18,6 +18,7 @@ pub use icescan_files::{
     Bundle, CommitFolder, Disk, DiskFolder, Folder, Folders, HostFolders, HostStores, Store,
     StoreFault, Stores, file_name, put_files, read_all,
 };
+pub use icescan_forms::Format;
 pub use icescan_hints::{Kind, Looks};
 pub use icescan_json::{plan_file_json, run_list_plan_json};
 pub use icescan_progress::{Cleared, Progress, ProgressLine, Screen, Silent, Terminals};
@@ -26,6 +27,6 @@ pub use icescan_requests::{
     run_show, select, show_file,
 };
 pub use icescan_text::{CommitRequest, Request};
-pub use icescan_words::{Command, Format, Lists, Place, Source, parse_words};
+pub use icescan_words::{Command, Lists, Located, Place, Source, parse_words};
 pub use system::System;
 pub use words::run_words;

@@ -11,7 +11,8 @@ ghost use Rattle.icescan_words.specs.declared.command.Command.{Command};
 ghost use Rattle.icescan_text.specs.declared.fault.RunFault.{RunFault};
 
 use crate::arms::{
-    TableAt, audit, columns, commit, drill, explain, list_plan, locate, plan, show, tell,
+    TableAt, audit, changes, columns, commit, drill, explain, list_plan, locate, plan, reachable,
+    show, tell,
 };
 use crate::system::System;
 use icescan_drill::Watch;
@@ -71,24 +72,32 @@ where
         Command::Commit(source, request) => {
             no_findings(commit(system, source, request, stores, input, output))
         }
-        Command::Show(source, path) => {
+        Command::Show(source, format, path) => {
             let table = &TableAt { source, path };
-            no_findings(show(system, table, input, output))
+            no_findings(show(system, table, *format, input, output))
         }
-        Command::Columns(source, target, path) => {
+        Command::Columns(source, target, format, path) => {
             let table = &TableAt { source, path };
-            no_findings(columns(system, table, target, input, output))
+            no_findings(columns(system, table, target, *format, input, output))
         }
-        Command::Audit(source, target, workers, path) => {
+        Command::Audit(source, target, format, workers, path) => {
             let table = &TableAt { source, path };
-            audit(system, table, target, *workers, input, output)
+            audit(system, table, target, *format, *workers, input, output)
         }
-        Command::Explain(source, request, workers, path) => {
+        Command::Explain(source, request, format, workers, path) => {
             let table = &TableAt { source, path };
-            no_findings(explain(system, table, request, *workers, input, output))
+            no_findings(explain(system, table, request, *format, *workers, input, output))
         }
-        Command::Locate(folder, separator) => {
-            no_findings(locate(system, folder, *separator, output))
+        Command::Changes(source, from, request, workers, path) => {
+            let table = &TableAt { source, path };
+            no_findings(changes(system, table, from, request, *workers, input, output))
+        }
+        Command::Reachable(source, path) => {
+            let table = &TableAt { source, path };
+            no_findings(reachable(system, table, input, output))
+        }
+        Command::Locate(folder, located) => {
+            no_findings(locate(system, folder, *located, output))
         }
         Command::Drill(asked) => no_findings(drill(system.host, system.alloc, *asked, output)),
         Command::Text(text) => no_findings(tell(text, output)),

@@ -14,10 +14,12 @@ pub fn place_of(asked: &Command) -> Option<&Place> {
         Command::ListPlan(Lists::Folder(place, _), _) => Some(place),
         Command::Plan(Source::Folder(place), _, _, _, _) => Some(place),
         Command::Commit(Source::Folder(place), _) => Some(place),
-        Command::Show(Source::Folder(place), _) => Some(place),
-        Command::Columns(Source::Folder(place), _, _) => Some(place),
-        Command::Audit(Source::Folder(place), _, _, _) => Some(place),
-        Command::Explain(Source::Folder(place), _, _, _) => Some(place),
+        Command::Show(Source::Folder(place), _, _) => Some(place),
+        Command::Columns(Source::Folder(place), _, _, _) => Some(place),
+        Command::Audit(Source::Folder(place), _, _, _, _) => Some(place),
+        Command::Explain(Source::Folder(place), _, _, _, _) => Some(place),
+        Command::Changes(Source::Folder(place), _, _, _, _) => Some(place),
+        Command::Reachable(Source::Folder(place), _) => Some(place),
         _ => None,
     }
 }
@@ -39,10 +41,12 @@ impl<'a, F: Files> Case<'a, F> {
     pub fn metadata_path(&self) -> Option<&'a str> {
         match self.asked {
             Command::Plan(_, _, _, _, path)
-            | Command::Show(_, path)
-            | Command::Columns(_, _, path)
-            | Command::Audit(_, _, _, path)
-            | Command::Explain(_, _, _, path) => Some(path.as_str()),
+            | Command::Show(_, _, path)
+            | Command::Columns(_, _, _, path)
+            | Command::Audit(_, _, _, _, path)
+            | Command::Explain(_, _, _, _, path)
+            | Command::Changes(_, _, _, _, path) => Some(path.as_str()),
+            | Command::Reachable(_, path) => Some(path.as_str()),
             Command::Commit(_, request) => Some(request.metadata.as_str()),
             _ => None,
         }
@@ -51,7 +55,7 @@ impl<'a, F: Files> Case<'a, F> {
     /// The plan that is asked of the table.
     pub fn request(&self) -> Option<&'a Request> {
         match self.asked {
-            Command::Plan(_, request, _, _, _) | Command::Explain(_, request, _, _) => Some(
+            Command::Plan(_, request, _, _, _) | Command::Explain(_, request, _, _, _) => Some(
                 request,
             ),
             _ => None,
@@ -61,10 +65,10 @@ impl<'a, F: Files> Case<'a, F> {
     /// The snapshot that is asked for.
     pub fn target(&self) -> Option<&'a Target> {
         match self.asked {
-            Command::Plan(_, request, _, _, _) | Command::Explain(_, request, _, _) => {
+            Command::Plan(_, request, _, _, _) | Command::Explain(_, request, _, _, _) => {
                 Some(&request.target)
             }
-            Command::Columns(_, target, _) | Command::Audit(_, target, _, _) => Some(target),
+            Command::Columns(_, target, _, _) | Command::Audit(_, target, _, _, _) => Some(target),
             _ => None,
         }
     }

@@ -100,8 +100,9 @@ fn add_workers<F: Files>(
 ) -> Result<(), AllocError> {
     match case.asked {
         Command::Plan(_, _, _, workers, _)
-        | Command::Audit(_, _, workers, _)
-        | Command::Explain(_, _, workers, _) => {
+        | Command::Audit(_, _, _, workers, _)
+        | Command::Explain(_, _, _, workers, _)
+        | Command::Changes(_, _, _, workers, _) => {
             hint.here(alloc, format!(in alloc; "`--workers` is {workers}")?)
         }
         _ => Ok(()),

@@ -27,23 +27,23 @@
 //!   folder; words, in other orders and refused; drills; texts of help
 //! - `data/upgraded`, a table that began as version 1: its plans, a row delta with position deletes that name one data
 //!   file, its plan after that, and plans of the version before; refused names of data files, and a time that goes
-//!   back;
-//!   in `data/events` a position delete that names a data file of another partition, which applies to nothing
+//!   back; in `data/events` a position delete that names a data file of another partition, which applies to nothing
 //! - an append under three specs, whose manifests, list and metadata are printed byte by byte: names of partition
 //!   fields as Avro spells them, or by id where two would be alike; no summaries where a uuid stands; a uuid with
 //!   hyphens
 //! - a row delta with partition values of each type and both kinds of deletes, whose manifests and list are those that
 //!   Avro's Java library wrote (`tools/interop/manifests_by_java.py`), byte by byte, and its plan as JSON; a decimal is
 //!   refused
-//! - audits: of `data/audits`, each table with the finding that it is named after; of the tables from before; of
+//! - audits: of `data/audits`, each table with the finding that it is named after; of the tables above; of
 //!   `data/together`, which has the files of `data/audits/together` below a folder and ends with status 1. What is
 //!   expected was computed by a program in another language, from what the tables were written with
-//! - explanations of plans of tables from before: with what is expected of `id = 42`, of filters of several predicates,
+//! - explanations of plans of the tables above: with what is expected of `id = 42`, of filters of several predicates,
 //!   of one that is never met, as that program computed it from the files too
 //! - plans as JSON: of `id = 42`, with the delete files that its explanation keeps, and of lists, as that program made
 //!   them; a refusal is that of the text
 //! - columns that a filter names, of `data/events` and of `data/columns`, a table without snapshots whose columns have
 //!   names and types of each form
+//! - changes of `data/events` from one snapshot to another, as `tools/trials/changes.py` makes them of two plans
 //! - the newest metadata of the tables in `data/located`, each with files that are not the newest and say so
 //! - refusals with `--explain`, over `data/hints`, which `tools/trials/refusals.py make` writes: below each line what
 //!   it is about and what to do

@@ -5,12 +5,14 @@ use Rattle.std.specs.List.{after_first, before_first, list_any, starts_with}
 use Rattle.std.specs.Str.{bytes_eq}
 use Rattle.std.specs.Str.Parse.{digits_value, signed_digits_value, without_leading_plus}
 use Rattle.uuid.specs.Text.{parsed}
-use Rattle.icescan_words.specs.declared.answer_format.Format.{Format}
-use Rattle.icescan_words.specs.declared.answer_format.Format.TheVariants as format
+use Rattle.icescan_forms.specs.declared.format.Format.{Format}
+use Rattle.icescan_forms.specs.declared.format.Format.TheVariants as format
 use Rattle.icescan_words.specs.declared.command.Command.{Command}
 use Rattle.icescan_words.specs.declared.command.Command.TheVariants as command
 use Rattle.icescan_words.specs.declared.command.Lists.{Lists}
 use Rattle.icescan_words.specs.declared.command.Lists.TheVariants as lists
+use Rattle.icescan_words.specs.declared.command.Located.{Located}
+use Rattle.icescan_words.specs.declared.command.Located.TheVariants as located
 use Rattle.icescan_words.specs.declared.command.Source.{Source}
 use Rattle.icescan_words.specs.declared.command.Source.TheVariants as source
 use Rattle.ice_meta.specs.declared.metadata.Target.{Target}
@@ -20,7 +22,6 @@ use Rattle.icescan_text.specs.declared.change.ChangeKind.TheVariants as kind
 use Rattle.icescan_text.specs.declared.request.CommitRequest.{CommitRequest}
 use Rattle.ice_catalog_changes.specs.declared.change.Ids.{Ids}
 use Rattle.icescan_text.specs.declared.request.Request.{Request}
-use Rattle.icescan_text.specs.declared.request.Separator.{Separator}
 use Rattle.icescan_text.specs.declared.request.Separator.TheVariants as separator
 use Rattle.icescan_text.specs.declared.drill.Drill.{Drill}
 
@@ -40,11 +41,15 @@ option_in (word ∷ words) name =
     else if bytes_eq (before_first is_equals word) name then value_in word words
     else option_in words name
 
--- the word after this option is its value: the option stands without `=`, and is none of the four that have no value
+-- an option that has no value
+abbrev pub is_flag : List ℕ → Bool
+is_flag word =
+    bytes_eq word (codes "--bundle") || bytes_eq word (codes "--quiet") || bytes_eq word (codes "--null")
+    || bytes_eq word (codes "--all") || bytes_eq word (codes "--explain")
+
+-- the word after this option is its value: the option stands without `=`, and may have a value
 abbrev pub takes_next : List ℕ → Bool
-takes_next word =
-    not (list_any is_equals word || bytes_eq word (codes "--bundle") || bytes_eq word (codes "--quiet")
-    || bytes_eq word (codes "--null") || bytes_eq word (codes "--explain"))
+takes_next word = not (list_any is_equals word || is_flag word)
 
 -- the words that are no options and no values of options, the first word being a value or not
 abbrev pub plain_from : Bool → List (List ℕ) → List (List ℕ)
@@ -88,14 +93,23 @@ IsTarget name id target.Main = (name ≡ None) × (id ≡ None)
 IsTarget name id (target.Ref wanted) = name ≡ Some wanted
 IsTarget name id (target.Snapshot wanted) = (name ≡ None) × (signed id ≡ Some wanted)
 
+-- the snapshot, by a text that names it: the current one where there is none
+abbrev pub IsNamed : Option (List ℕ) → Target → Type 0
+IsNamed text target.Main = text ≡ None
+IsNamed text (target.Ref name) = text ≡ Some name
+IsNamed text (target.Snapshot id) = signed text ≡ Some id
+
 -- the form, by the text of --format
 abbrev pub format_by : Option (List ℕ) → Format
 format_by (Some name) = if bytes_eq name (codes "json") then format.Json else format.Text
 format_by None = format.Text
 
--- how words are set apart: by `--null` with a NUL
-abbrev pub separator_by : Bool → Separator
-separator_by is_null = if is_null then separator.Nul else separator.Space
+-- what is told of a table in a folder: by `--all` each metadata file, else words, by `--null` set apart with a NUL
+abbrev pub located_by : Bool → Bool → Located
+located_by is_all is_null =
+    if is_all then located.All
+    else if is_null then located.Newest separator.Nul
+    else located.Newest separator.Space
 
 -- the number of workers, by the text of --workers
 abbrev pub workers_by : Option (List ℕ) → ℕ
@@ -119,11 +133,13 @@ abbrev pub command_name : Command → List ℕ
 command_name (command.ListPlan lists form) = codes "list-plan"
 command_name (command.Plan from request form workers path) = codes "plan"
 command_name (command.Commit from request) = name_of request.kind
-command_name (command.Show from path) = codes "show"
-command_name (command.Locate folder form) = codes "locate"
-command_name (command.Columns from of path) = codes "columns"
-command_name (command.Audit from of workers path) = codes "audit"
-command_name (command.Explain from request workers path) = codes "explain"
+command_name (command.Show from form path) = codes "show"
+command_name (command.Locate folder told) = codes "locate"
+command_name (command.Columns from of form path) = codes "columns"
+command_name (command.Audit from of form workers path) = codes "audit"
+command_name (command.Explain from request form workers path) = codes "explain"
+command_name (command.Changes from earlier request workers path) = codes "changes"
+command_name (command.Reachable from path) = codes "reachable"
 command_name (command.Drill drill) = codes "drill"
 command_name (command.Text text) = codes "help"
 
@@ -141,11 +157,21 @@ module _ (words : List (List ℕ)) where
   abbrev pub HasRequest : Request → Type 0
   HasRequest request = HasTarget request.target × (option_in words (codes "--filter") ≡ request.filter)
 
+  -- the snapshots of --from and --to, and the filter
+  pub record HasChanges (from : Target) (request : Request) : Type 0 where
+    pub earlier : IsNamed (option_in words (codes "--from")) from
+    pub later : IsNamed (option_in words (codes "--to")) request.target
+    pub filter : option_in words (codes "--filter") ≡ request.filter
+
   abbrev pub HasFormat : Format → Type 0
   HasFormat form = form ≡ format_by (option_in words (codes "--format"))
 
-  abbrev pub HasSeparator : Separator → Type 0
-  HasSeparator form = form ≡ separator_by (list_any (λ word. bytes_eq word (codes "--null")) words)
+  -- one of the words is this one
+  abbrev pub has_word : List ℕ → Bool
+  has_word wanted = list_any (λ word. bytes_eq word wanted) words
+
+  abbrev pub HasLocated : Located → Type 0
+  HasLocated told = told ≡ located_by (has_word (codes "--all")) (has_word (codes "--null"))
 
   abbrev pub HasWorkers : ℕ → Type 0
   HasWorkers workers = workers ≡ workers_by (option_in words (codes "--workers"))
@@ -174,12 +200,16 @@ module _ (words : List (List ℕ)) where
   AsksFor (command.Plan from request form workers path) =
       Names (codes "plan") path × HasSource from × HasRequest request × HasFormat form × HasWorkers workers
   AsksFor (command.Commit from request) = HasCommit request × HasSource from
-  AsksFor (command.Show from path) = Names (codes "show") path × HasSource from
-  AsksFor (command.Locate folder form) = Names (codes "locate") folder × HasSeparator form
-  AsksFor (command.Columns from of path) = Names (codes "columns") path × HasSource from × HasTarget of
-  AsksFor (command.Audit from of workers path) =
-      Names (codes "audit") path × HasSource from × HasTarget of × HasWorkers workers
-  AsksFor (command.Explain from request workers path) =
-      Names (codes "explain") path × HasSource from × HasRequest request × HasWorkers workers
+  AsksFor (command.Show from form path) = Names (codes "show") path × HasSource from × HasFormat form
+  AsksFor (command.Locate folder told) = Names (codes "locate") folder × HasLocated told
+  AsksFor (command.Columns from of form path) =
+      Names (codes "columns") path × HasSource from × HasTarget of × HasFormat form
+  AsksFor (command.Audit from of form workers path) =
+      Names (codes "audit") path × HasSource from × HasTarget of × HasFormat form × HasWorkers workers
+  AsksFor (command.Explain from request form workers path) =
+      Names (codes "explain") path × HasSource from × HasRequest request × HasFormat form × HasWorkers workers
+  AsksFor (command.Changes from earlier request workers path) =
+      Names (codes "changes") path × HasSource from × HasChanges earlier request × HasWorkers workers
+  AsksFor (command.Reachable from path) = Names (codes "reachable") path × HasSource from
   AsksFor (command.Drill drill) = HasDrill drill
   AsksFor (command.Text text) = list_any asks_help words ≡ true

@@ -2,7 +2,9 @@
 
 use crate::command_line::{described, over_files};
 use crate::parameter::Parameter;
-use crate::parameters::{BUNDLE, COLUMNS_REF, COLUMNS_SNAPSHOT, DIR, METADATA, PREFIX};
+use crate::parameters::{
+    BUNDLE, COLUMNS_REF, COLUMNS_SNAPSHOT, DIR, LINES_FORMAT, METADATA, PREFIX,
+};
 use clap::Command;
 use std::alloc::{AllocError, Global};
 
@@ -24,6 +26,10 @@ backslashes is escaped, as paths are.
 The schema is the one that a filter of the same --ref or --snapshot is read by:
 the current one, or that of the snapshot itself for a tag and for --snapshot.
 
+With --format json each line is an object: its `kind` is the first word of the
+line of text, in which a `field` or a `column` also has its `spec` or `schema`.
+What no filter names has the name null.
+
 Example, at the top of icescan's repository:
   icescan columns --dir examples/events-java/table --prefix s3://warehouse/db/events \\
     s3://warehouse/db/events/metadata/00009-ea5012f5-592b-59fd-6564-e953f439e682.metadata.json
@@ -32,7 +38,15 @@ Exit status: 0 done, 1 the metadata is refused, 2 the command line or the bundle
 is, 3 a read or a write failed, 5 memory ran out. A refusal is one line on
 standard error.";
 
-const COLUMNS: &[Parameter] = &[METADATA, COLUMNS_REF, COLUMNS_SNAPSHOT, BUNDLE, DIR, PREFIX];
+const COLUMNS: &[Parameter] = &[
+    METADATA,
+    COLUMNS_REF,
+    COLUMNS_SNAPSHOT,
+    LINES_FORMAT,
+    BUNDLE,
+    DIR,
+    PREFIX,
+];
 
 /// The command `columns`.
 pub fn columns_command<'a>(alloc: Global) -> Result<Command<'a>, AllocError> {

@@ -1,8 +1,8 @@
 //! What the words of a command line ask for.
 
-use crate::answer_format::Format;
 use contract_words::Text;
 use ice_meta::Target;
+use icescan_forms::Format;
 use icescan_text::{CommitRequest, Drill, Request, Separator};
 
 /// A folder, and how the paths of the files below it begin.
@@ -30,6 +30,15 @@ pub enum Source {
     Folder(Place),
 }
 
+/// What is told of a table in a folder.
+#[derive(Clone, Copy, Debug, PartialEq, Eq)]
+pub enum Located {
+    /// Words that name its newest metadata, set apart so.
+    Newest(Separator),
+    /// Each of its metadata files.
+    All,
+}
+
 /// What the words ask for.
 #[derive(Debug, Drop)]
 pub enum Command {
@@ -39,16 +48,21 @@ pub enum Command {
     Plan(Source, Request, Format, usize, Text),
     /// A commit.
     Commit(Source, CommitRequest),
-    /// The text of the metadata at this path.
-    Show(Source, Text),
-    /// The words, set apart so, of the table in this folder.
-    Locate(Text, Separator),
-    /// The columns that a filter of this snapshot names, of the table whose metadata is at this path.
-    Columns(Source, Target, Text),
-    /// The audit, by so many workers, of this snapshot of the table whose metadata is at this path.
-    Audit(Source, Target, usize, Text),
-    /// The plan, by so many workers, that is asked of the table whose metadata is at this path, explained.
-    Explain(Source, Request, usize, Text),
+    /// What the metadata at this path says, in this form.
+    Show(Source, Format, Text),
+    /// This of the table in this folder.
+    Locate(Text, Located),
+    /// The columns, in this form, that a filter of this snapshot names, of the table whose metadata is at this path.
+    Columns(Source, Target, Format, Text),
+    /// The audit, in this form and by so many workers, of this snapshot of the table whose metadata is at this path.
+    Audit(Source, Target, Format, usize, Text),
+    /// The plan, by so many workers, that is asked of the table whose metadata is at this path, explained in this form.
+    Explain(Source, Request, Format, usize, Text),
+    /// The changes, by so many workers, from a snapshot to the plan that is asked of the table whose metadata is at this
+    /// path.
+    Changes(Source, Target, Request, usize, Text),
+    /// The files that the table reaches whose metadata is at this path.
+    Reachable(Source, Text),
     /// A drill.
     Drill(Drill),
     /// A text of help, or the version.

@@ -1,5 +1,6 @@
 //! The command line: its commands, options and help.
 
+use crate::changes_command::changes_command;
 use crate::columns_command::columns_command;
 use crate::explain_command::explain_command;
 use crate::help_texts::{
@@ -9,9 +10,10 @@ use crate::help_texts::{
 use crate::locate_command::locate_command;
 use crate::parameter::{Parameter, argument, flag};
 use crate::parameters::{
-    AUDITED_REF, AUDITED_SNAPSHOT, BUNDLE, CHANGE, COMMITS, DIR, FILTER, FORMAT, LIST, METADATA,
-    NOW_MS, OUT, PREFIX, QUIET, REF, SNAPSHOT, SNAPSHOT_ID, THREADS, UUID, WORKERS,
+    AUDITED_REF, AUDITED_SNAPSHOT, BUNDLE, CHANGE, COMMITS, DIR, FILTER, FORMAT, LINES_FORMAT,
+    LIST, METADATA, NOW_MS, OUT, PREFIX, QUIET, REF, SNAPSHOT, SNAPSHOT_ID, THREADS, UUID, WORKERS,
 };
+use crate::reachable_command::reachable_command;
 use clap::{ArgGroup, Command};
 use std::alloc::{AllocError, Global};
 
@@ -26,6 +28,8 @@ enum Name {
     Locate,
     Audit,
     Explain,
+    Changes,
+    Reachable,
     Drill,
 }
 
@@ -40,6 +44,8 @@ const NAMES: &[Name] = &[
     Name::Locate,
     Name::Audit,
     Name::Explain,
+    Name::Changes,
+    Name::Reachable,
     Name::Drill,
 ];
 
@@ -62,13 +68,14 @@ const COMMIT: &[Parameter] = &[
     QUIET,
 ];
 
-const SHOW: &[Parameter] = &[METADATA, BUNDLE, DIR, PREFIX];
+const SHOW: &[Parameter] = &[METADATA, LINES_FORMAT, BUNDLE, DIR, PREFIX];
 
 const AUDIT: &[Parameter] = &[
     METADATA,
     AUDITED_REF,
     AUDITED_SNAPSHOT,
     WORKERS,
+    LINES_FORMAT,
     BUNDLE,
     DIR,
     PREFIX,
@@ -191,6 +198,8 @@ fn command<'a>(alloc: Global, name: &Name) -> Result<Command<'a>, AllocError> {
         Name::Locate => locate_command(alloc),
         Name::Audit => audit_command(alloc),
         Name::Explain => explain_command(alloc),
+        Name::Changes => changes_command(alloc),
+        Name::Reachable => reachable_command(alloc),
         Name::Drill => drill_command(alloc),
     }
 }

@@ -3,7 +3,7 @@
 use crate::command_line::{described, over_files};
 use crate::parameter::Parameter;
 use crate::parameters::{
-    BUNDLE, DIR, EXPLAIN_WORKERS, FILTER, METADATA, PREFIX, QUIET, REF, SNAPSHOT,
+    BUNDLE, DIR, EXPLAIN_WORKERS, FILTER, LINES_FORMAT, METADATA, PREFIX, QUIET, REF, SNAPSHOT,
 };
 use clap::Command;
 use std::alloc::{AllocError, Global};
@@ -31,6 +31,10 @@ files that are left out:
   data N kept N partition N bounds N bytes N
   deletes N kept N partition N
 
+With --format json each line is an object: its `kind` is the first word of the
+line of text, `by` says what a manifest or a file is pruned by, `partition` or
+`bounds`, and `name` the field or column.
+
 Example, at the top of icescan's repository:
   icescan explain --dir examples/events-java/table --prefix s3://warehouse/db/events --filter \"id = 42\" \\
     s3://warehouse/db/events/metadata/00009-ea5012f5-592b-59fd-6564-e953f439e682.metadata.json
@@ -48,6 +52,7 @@ const EXPLAIN: &[Parameter] = &[
     SNAPSHOT,
     FILTER,
     EXPLAIN_WORKERS,
+    LINES_FORMAT,
     BUNDLE,
     DIR,
     PREFIX,

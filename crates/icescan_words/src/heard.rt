@@ -4,19 +4,22 @@ ghost use Rattle.std.specs.Prelude.{◌≡◌, ◌∷◌, [], IfOk, IsTrue, None
 ghost use Rattle.std.specs.Prelude.{option_and_then, option_map, string_bytes};
 ghost use Rattle.std.specs.List.{after_first, before_first, list_any, starts_with};
 ghost use Rattle.uuid.specs.Text.{parsed};
+ghost use Rattle.icescan_words.specs.Heard.{HasChanges, IsNamed};
 ghost use Rattle.icescan_words.specs.Heard.{AsksFor, HasCommit, HasDrill, HasFormat, HasIds, HasRequest, HasSource};
-ghost use Rattle.icescan_words.specs.Heard.{HasSeparator, HasTarget, HasWorkers, Names, asks_help, is_equals};
+ghost use Rattle.icescan_words.specs.Heard.{HasLocated, HasTarget, HasWorkers, Names, asks_help, is_equals};
+ghost use Rattle.icescan_words.specs.Heard.{is_flag};
 ghost use Rattle.icescan_words.specs.Heard.{list_of, name_of};
-ghost use Rattle.icescan_words.specs.Heard.{option_in, option_items, plain_words, separator_by, signed, source_of};
+ghost use Rattle.icescan_words.specs.Heard.{option_in, option_items, plain_words, located_by, signed, source_of};
 ghost use Rattle.icescan_words.specs.Heard.{takes_next};
 ghost use Rattle.icescan_words.specs.Heard.{unsigned};
 ghost use Rattle.icescan_words.specs.declared.command.Source.TheVariants as source;
 
-use crate::answer_format::{Format, format_by};
-use crate::command::{Command, Lists, Place, Source};
+use crate::answer_format::format_by;
+use crate::command::{Command, Lists, Located, Place, Source};
 use contract_words::Text;
 use ice_catalog_changes::Ids;
 use ice_meta::Target;
+use icescan_forms::Format;
 use icescan_text::{ChangeKind, CommitRequest, Drill, Request, Separator};
 use std::alloc::{AllocError, Global};
 use uuid::Uuid;
@@ -53,16 +56,25 @@ fn option_in<'a>(words: &'a [String], name: &str) -> Option<&'a str>
     None
 }
 
+/// Whether it is an option that has no value.
+fn is_flag(word: &str) -> bool
+    ensures { result ≡ is_flag word.now }
+{
+    word == "--bundle"
+        || word == "--quiet"
+        || word == "--null"
+        || word == "--all"
+        || word == "--explain"
+}
+
 /// Whether the word after this option is its value.
 fn takes_next(word: &str) -> bool
     ensures { result ≡ takes_next word.now }
 {
-    let (_, value) = parts_of(word);
-    !(value.is_some()
-        || word == "--bundle"
-        || word == "--quiet"
-        || word == "--null"
-        || word == "--explain")
+    match parts_of(word).1 {
+        Some(_) => false,
+        None => !is_flag(word),
+    }
 }
 
 /// Whether a word begins with two hyphens, as an option does.
@@ -280,22 +292,24 @@ fn has_format(words: &[String], format: Format) -> bool
     format == format_by(option_in(words, "--format"))
 }
 
-/// How words are set apart where a word asks for a NUL, and where none does.
-fn separator_by(is_null: bool) -> Separator
-    ensures { result ≡ separator_by is_null }
+/// What is told of a table where a word asks for all of its metadata or for a NUL, and where none does.
+fn located_by(is_all: bool, is_null: bool) -> Located
+    ensures { result ≡ located_by is_all is_null }
 {
-    if is_null {
-        Separator::Nul
+    if is_all {
+        Located::All
+    } else if is_null {
+        Located::Newest(Separator::Nul)
     } else {
-        Separator::Space
+        Located::Newest(Separator::Space)
     }
 }
 
-/// Whether the words ask for words that are set apart so.
-fn has_separator(words: &[String], separator: Separator) -> bool
-    ensures { IsTrue result → HasSeparator (map string_bytes words.now) separator }
+/// Whether the words ask for this of a table.
+fn has_located(words: &[String], located: Located) -> bool
+    ensures { IsTrue result → HasLocated (map string_bytes words.now) located }
 {
-    separator == separator_by(has_word(words, "--null"))
+    located == located_by(has_word(words, "--all"), has_word(words, "--null"))
 }
 
 /// Whether the words ask for so many workers.
@@ -409,12 +423,41 @@ fn has_plan(words: &[String], request: &Request, format: Format, workers: usize)
     has_format(words, format) && has_scan(words, request, workers)
 }
 
-/// Whether the words ask for this snapshot, by so many workers.
-fn has_audit(words: &[String], target: &Target, workers: usize) -> bool
+/// Whether the words ask for this snapshot, in this form.
+fn has_columns(words: &[String], target: &Target, format: Format) -> bool
     ensures { IsTrue result → HasTarget (map string_bytes words.now) target.now
-        × HasWorkers (map string_bytes words.now) workers }
+        × HasFormat (map string_bytes words.now) format }
 {
-    has_target(words, target) && has_workers(words, workers)
+    has_target(words, target) && has_format(words, format)
+}
+
+/// Whether the words ask for this snapshot, in this form and by so many workers.
+fn has_audit(words: &[String], target: &Target, format: Format, workers: usize) -> bool
+    ensures { IsTrue result → HasTarget (map string_bytes words.now) target.now
+        × HasFormat (map string_bytes words.now) format × HasWorkers (map string_bytes words.now) workers }
+{
+    has_columns(words, target, format) && has_workers(words, workers)
+}
+
+/// Whether the words name this snapshot by the option of this name.
+fn has_named(words: &[String], name: &str, target: &Target) -> bool
+    ensures { IsTrue result → IsNamed (option_in (map string_bytes words.now) name.now) target.now }
+{
+    let value = option_in(words, name);
+    match target {
+        Target::Main => value.is_none(),
+        Target::Ref(wanted) => is_text(value, wanted.as_str()),
+        Target::Snapshot(wanted) => is_signed(value, *wanted),
+    }
+}
+
+/// Whether the words ask for the changes from this snapshot to this plan.
+fn has_changes(words: &[String], earlier: &Target, request: &Request) -> bool
+    ensures { IsTrue result → HasChanges (map string_bytes words.now) earlier.now request.now }
+{
+    has_named(words, "--from", earlier)
+        && has_named(words, "--to", &request.target)
+        && has_filter(words, request.filter.as_ref())
 }
 
 /// Whether the words, of which the plain ones are given, ask for this command.
@@ -433,20 +476,31 @@ fn asks_with(words: &[String], plain: &[&str], command: &Command) -> bool
         Command::Commit(source, request) => {
             has_commit(words, plain, request) && has_source(words, source)
         }
-        Command::Show(source, path) => is_about(words, plain, "show", source, path.as_str()),
-        Command::Locate(folder, separator) => {
-            are_words(plain, &["locate", folder.as_str()]) && has_separator(words, *separator)
+        Command::Show(source, format, path) => {
+            is_about(words, plain, "show", source, path.as_str()) && has_format(words, *format)
         }
-        Command::Columns(source, target, path) => {
-            is_about(words, plain, "columns", source, path.as_str()) && has_target(words, target)
+        Command::Locate(folder, located) => {
+            are_words(plain, &["locate", folder.as_str()]) && has_located(words, *located)
         }
-        Command::Audit(source, target, workers, path) => {
+        Command::Columns(source, target, format, path) => {
+            is_about(words, plain, "columns", source, path.as_str())
+                && has_columns(words, target, *format)
+        }
+        Command::Audit(source, target, format, workers, path) => {
             is_about(words, plain, "audit", source, path.as_str())
-                && has_audit(words, target, *workers)
+                && has_audit(words, target, *format, *workers)
         }
-        Command::Explain(source, request, workers, path) => {
+        Command::Explain(source, request, format, workers, path) => {
             is_about(words, plain, "explain", source, path.as_str())
-                && has_scan(words, request, *workers)
+                && has_plan(words, request, *format, *workers)
+        }
+        Command::Changes(source, earlier, request, workers, path) => {
+            is_about(words, plain, "changes", source, path.as_str())
+                && has_changes(words, earlier, request)
+                && has_workers(words, *workers)
+        }
+        Command::Reachable(source, path) => {
+            is_about(words, plain, "reachable", source, path.as_str())
         }
         Command::Drill(drill) => has_drill(words, plain, *drill),
         Command::Text(_) => any_asks_help(words),

@@ -57,7 +57,12 @@ Exit status: 0 done, 1 the table is refused, 2 the command line or the bundle
 is, 3 a read or a write failed, 5 memory ran out. A refusal is one line on
 standard error.";
 
-pub const SHOW_EXAMPLE: &str = "Example, at the top of icescan's repository:
+pub const SHOW_EXAMPLE: &str =
+    "With --format json each line is an object, whose `kind` is `table`, `schema`,
+`column`, `spec`, `field`, `snapshot` or `ref`; the columns of each schema and
+the fields of each partition spec come after it, as `columns` has them.
+
+Example, at the top of icescan's repository:
   icescan show --dir examples/plain-java/table --prefix s3://warehouse/db/plain \\
     s3://warehouse/db/plain/metadata/00005-c64aaab7-8283-c18e-53ea-99e6e56da046.metadata.json
 
@@ -94,6 +99,9 @@ findings:
                (these lines come after all others)
 Where no finding is `uncovered`, the plan under any filter is that of all
 manifests of the snapshot.
+
+With --format json each line is an object: a finding, whose `level` is `fault`
+or `note`, or last the numbers.
 
 Example, at the top of icescan's repository:
   icescan audit --dir examples/events-java/table --prefix s3://warehouse/db/events \\

@@ -2,6 +2,7 @@
 #![tactic(auto)]
 
 mod answer_format;
+mod changes_command;
 mod columns_command;
 mod command;
 mod command_line;
@@ -13,7 +14,7 @@ mod matches;
 mod parameter;
 mod parameters;
 mod parsing;
+mod reachable_command;
 
-pub use answer_format::Format;
-pub use command::{Command, Lists, Place, Source};
+pub use command::{Command, Lists, Located, Place, Source};
 pub use parsing::parse_words;

@@ -2,7 +2,7 @@
 
 use crate::command_line::{described, with_parameters};
 use crate::parameter::Parameter;
-use crate::parameters::{FOLDER, NULL};
+use crate::parameters::{ALL, FOLDER, NULL};
 use clap::Command;
 use std::alloc::{AllocError, Global};
 
@@ -17,6 +17,11 @@ What is printed are the words by which other commands are told of the table:
   --dir FOLDER --prefix LOCATION METADATA
 LOCATION is the table's location, as its metadata says it.
 
+--all prints a line for each metadata file, the highest number first:
+  metadata NUMBER at TIME file NAME
+TIME is when the table was last changed, in milliseconds since 1970-01-01 UTC,
+as the file says it; it is - where the file is none that icescan can read.
+
 Example, at the top of icescan's repository:
   icescan plan $(icescan locate examples/events-java/table) --filter \"id = 42\"
 Where a path has blanks:
@@ -26,7 +31,7 @@ Exit status: 0 done, 1 the metadata is refused, 2 the command line is, 3 a read
 or a write failed, or there is no newest metadata that can be read, 5 memory ran
 out. A refusal is one line on standard error.";
 
-const LOCATE: &[Parameter] = &[FOLDER, NULL];
+const LOCATE: &[Parameter] = &[FOLDER, ALL, NULL];
 
 /// The command `locate`.
 pub fn locate_command<'a>(alloc: Global) -> Result<Command<'a>, AllocError> {

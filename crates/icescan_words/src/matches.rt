@@ -4,16 +4,17 @@ ghost use Rattle.std.specs.Prelude.{◌≡◌, IfErr, IfOk, None, Some, codes, o
 ghost use Rattle.clap.specs.Words.{subcommand_name_of};
 ghost use Rattle.uuid.specs.Text.{parsed};
 ghost use Rattle.icescan_words.specs.CommandLines.{IsWordsFault};
-ghost use Rattle.icescan_words.specs.Heard.{IsSource, IsTarget, command_name, format_by, list_of, name_of};
+ghost use Rattle.icescan_words.specs.Heard.{IsNamed, IsSource, IsTarget, command_name, format_by, list_of, name_of};
 ghost use Rattle.icescan_words.specs.Heard.{signed, source_of, unsigned, workers_by};
 ghost use Rattle.icescan_words.specs.Matched.{value_at};
 
-use crate::answer_format::{Format, format_by};
-use crate::command::{Command, Lists, Place, Source};
+use crate::answer_format::format_by;
+use crate::command::{Command, Lists, Located, Place, Source};
 use clap::ArgMatches;
 use contract_words::Text;
 use ice_catalog_changes::Ids;
 use ice_meta::Target;
+use icescan_forms::Format;
 use icescan_text::{ChangeKind, CommitRequest, Drill, Request, RunFault, Separator};
 use std::alloc::{AllocError, Global};
 use uuid::Uuid;
@@ -137,6 +138,30 @@ fn target_of(alloc: Global, matches: &ArgMatches<'_>) -> Result<Target, RunFault
     }
 }
 
+/// The snapshot that the option of this name names: by its id where the text writes a number, else by its branch or tag.
+fn named_target(alloc: Global, matches: &ArgMatches<'_>, name: &str) -> Result<Target, AllocError>
+    ensures { IfOk result (λ target. IsNamed (value_at matches.now name.now) target) }
+{
+    let Some(text) = matches.get_str(name) else {
+        return Ok(Target::Main);
+    };
+    match text.parse::<i64>() {
+        Ok(id) => Ok(Target::Snapshot(id)),
+        Err(_) => Ok(Target::Ref(text_of(alloc, text)?)),
+    }
+}
+
+/// The later plan of which the changes are asked for.
+fn later_of(alloc: Global, matches: &ArgMatches<'_>) -> Result<Request, AllocError>
+    ensures target { IfOk result (λ request. IsNamed (value_at matches.now (codes "to")) request.target) }
+    ensures filter { IfOk result (λ request. request.filter ≡ value_at matches.now (codes "filter")) }
+{
+    Ok(Request {
+        target: named_target(alloc, matches, "to")?,
+        filter: text_at(alloc, matches, "filter")?,
+    })
+}
+
 /// What is asked of a table.
 fn request_of(alloc: Global, matches: &ArgMatches<'_>) -> Result<Request, RunFault>
     ensures target { IfOk result (λ request. IsTarget (value_at matches.now (codes "ref"))
@@ -255,13 +280,14 @@ fn plan_command(alloc: Global, matches: &ArgMatches<'_>) -> Result<Command, RunF
     ))
 }
 
-/// The text of metadata that is asked for.
+/// What is asked for of metadata.
 fn show_command(alloc: Global, matches: &ArgMatches<'_>) -> Result<Command, RunFault>
     ensures name { IfOk result (λ command. command_name command ≡ codes "show") }
     ensures causes { IfErr result IsWordsFault }
 {
     Ok(Command::Show(
         source_of(alloc, matches)?,
+        format_of(matches),
         required_text(alloc, matches, "metadata")?,
     ))
 }
@@ -271,12 +297,14 @@ fn locate_command(alloc: Global, matches: &ArgMatches<'_>) -> Result<Command, Ru
     ensures name { IfOk result (λ command. command_name command ≡ codes "locate") }
     ensures causes { IfErr result IsWordsFault }
 {
-    let separator = if matches.get_flag("null") {
-        Separator::Nul
+    let located = if matches.get_flag("all") {
+        Located::All
+    } else if matches.get_flag("null") {
+        Located::Newest(Separator::Nul)
     } else {
-        Separator::Space
+        Located::Newest(Separator::Space)
     };
-    Ok(Command::Locate(required_text(alloc, matches, "folder")?, separator))
+    Ok(Command::Locate(required_text(alloc, matches, "folder")?, located))
 }
 
 /// The columns that are asked for.
@@ -287,6 +315,7 @@ fn columns_command(alloc: Global, matches: &ArgMatches<'_>) -> Result<Command, R
     Ok(Command::Columns(
         source_of(alloc, matches)?,
         target_of(alloc, matches)?,
+        format_of(matches),
         required_text(alloc, matches, "metadata")?,
     ))
 }
@@ -299,6 +328,7 @@ fn audit_command(alloc: Global, matches: &ArgMatches<'_>) -> Result<Command, Run
     Ok(Command::Audit(
         source_of(alloc, matches)?,
         target_of(alloc, matches)?,
+        format_of(matches),
         workers_of(alloc, matches)?,
         required_text(alloc, matches, "metadata")?,
     ))
@@ -312,7 +342,33 @@ fn explain_command(alloc: Global, matches: &ArgMatches<'_>) -> Result<Command, R
     Ok(Command::Explain(
         source_of(alloc, matches)?,
         request_of(alloc, matches)?,
+        format_of(matches),
         workers_of(alloc, matches)?,
+        required_text(alloc, matches, "metadata")?,
+    ))
+}
+
+/// The changes that are asked for.
+fn changes_command(alloc: Global, matches: &ArgMatches<'_>) -> Result<Command, RunFault>
+    ensures name { IfOk result (λ command. command_name command ≡ codes "changes") }
+    ensures causes { IfErr result IsWordsFault }
+{
+    Ok(Command::Changes(
+        source_of(alloc, matches)?,
+        named_target(alloc, matches, "from")?,
+        later_of(alloc, matches)?,
+        workers_of(alloc, matches)?,
+        required_text(alloc, matches, "metadata")?,
+    ))
+}
+
+/// The files of a table that are asked for.
+fn reachable_command(alloc: Global, matches: &ArgMatches<'_>) -> Result<Command, RunFault>
+    ensures name { IfOk result (λ command. command_name command ≡ codes "reachable") }
+    ensures causes { IfErr result IsWordsFault }
+{
+    Ok(Command::Reachable(
+        source_of(alloc, matches)?,
         required_text(alloc, matches, "metadata")?,
     ))
 }
@@ -353,6 +409,8 @@ fn command_of(alloc: Global, matches: &ArgMatches<'_>) -> Result<Command, RunFau
         "columns" => columns_command(alloc, matches),
         "audit" => audit_command(alloc, matches),
         "explain" => explain_command(alloc, matches),
+        "changes" => changes_command(alloc, matches),
+        "reachable" => reachable_command(alloc, matches),
         "append" => commit_command(alloc, matches, ChangeKind::Append),
         "row-delta" => commit_command(alloc, matches, ChangeKind::RowDelta),
         "drill" => Ok(Command::Drill(drill_of(alloc, matches)?)),

@@ -73,10 +73,10 @@ fn valued<'a>(alloc: Global, parameter: &'a Parameter) -> Arg<'a> {
 
 /// What the parser is told of a parameter.
 pub fn argument<'a>(alloc: Global, parameter: &'a Parameter) -> Result<Arg<'a>, AllocError> {
-    if let Kind::Flag = parameter.kind {
-        return Ok(flag(alloc, parameter.name, parameter.help));
-    }
-    let argument = valued(alloc, parameter);
+    let argument = match parameter.kind {
+        Kind::Flag => flag(alloc, parameter.name, parameter.help),
+        _ => valued(alloc, parameter),
+    };
     match parameter.rule {
         Rule::Free => Ok(argument),
         Rule::With(other) => argument.requires_arg(other),

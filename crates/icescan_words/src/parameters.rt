@@ -82,6 +82,14 @@ pub const NULL: Parameter = Parameter {
     ..BUNDLE
 };
 
+/// Every metadata file. Words that end with a NUL are not among its lines.
+pub const ALL: Parameter = Parameter {
+    name: "all",
+    rule: Rule::Without("null"),
+    help: "Print each metadata file with its number and time",
+    ..BUNDLE
+};
+
 /// The form of a plan.
 pub const FORMAT: Parameter = Parameter {
     name: "format",
@@ -90,6 +98,12 @@ pub const FORMAT: Parameter = Parameter {
     takes: ValueParser::Names(&["text", "json"]),
     rule: Rule::Default("text"),
     help: "Print lines of text, or a REST catalog's answer as JSON",
+};
+
+/// The form in which lines are printed.
+pub const LINES_FORMAT: Parameter = Parameter {
+    help: "Print lines of text, or an object of JSON in each line",
+    ..FORMAT
 };
 
 /// The branch or tag whose snapshot is meant. At most one of this and `--snapshot` is there.
@@ -158,6 +172,23 @@ pub const WORKERS: Parameter = Parameter {
 pub const EXPLAIN_WORKERS: Parameter = Parameter {
     help: "As for `plan`; one worker reads all",
     ..WORKERS
+};
+
+/// The snapshot from which changes are told, and the one up to which they are.
+pub const FROM: Parameter = Parameter {
+    name: "from",
+    kind: Kind::Required,
+    value: "SNAPSHOT|REF",
+    takes: ValueParser::String,
+    rule: Rule::Free,
+    help: "Tell the changes from this snapshot's id, branch or tag",
+};
+
+pub const TO: Parameter = Parameter {
+    name: "to",
+    kind: Kind::Optional,
+    help: "Up to this one, or else to the current snapshot",
+    ..FROM
 };
 
 /// How many threads a drill has.

@@ -4,7 +4,6 @@ ghost use Rattle.std.specs.Prelude.{◌≡◌, IfErr, IfOk, map, string_bytes};
 ghost use Rattle.icescan_words.specs.CommandLines.{IsWordsFault, ReadAs, asks_first_list};
 ghost use Rattle.icescan_words.specs.Heard.{AsksFor};
 
-use crate::answer_format::Format;
 use crate::command::{Command, Lists};
 use crate::command_line::program;
 use crate::heard::asks_for;
@@ -12,6 +11,7 @@ use crate::matches::{matched, misread};
 use clap::Error;
 use clap::error::ErrorKind;
 use contract_words::Text;
+use icescan_forms::Format;
 use icescan_text::RunFault;
 use std::alloc::Global;
 

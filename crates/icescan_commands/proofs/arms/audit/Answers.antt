@@ -21,7 +21,7 @@ returns-in_err-files-clause-ran g c =
       no.1,
       unopened_ran (g.S.Folders.below c.args.system.now.folders.now)
           (g.S.Folders.may_fail c.args.system.now.folders.now) no.0
-          (λ world. audit_in world path c.args.target.now c.args.workers)
+          (λ world. audit_in c.args.format world path c.args.target.now c.args.workers)
           (λ world. audit_reads_at world path c.args.target.now) c.args.table.now.source.now
           (g.W.Sink.may_fail c.args.output.now) _
           c.in_err-files.field-0.0 no.2,
@@ -34,13 +34,15 @@ returns-clause-ran g c =
     let may_fail = g.S.Folders.may_fail c.args.system.now.folders.now in
     let opened = c.in_ok-files.ensures.opened in
     let from = c.args.table.now.source.now in
-    let path = c.as_str.result.now in
+    let path = c.as_str-path.result.now in
     let target = c.args.target.now in
     let workers = c.args.workers in
-    let ran = c.audit_file in
-    let told = opened_ran below may_fail opened.0 from _ _ opened.2 (λ world. audit_in world path target workers)
+    let ran = c.write_audit in
+    let told = opened_ran below may_fail opened.0 from _ _ opened.2
+    (λ world. audit_in c.args.format world path target workers)
     (λ world. audit_reads_at world path target) (g.W.Sink.may_fail c.args.output.now) (ended ran.result) _ _
-    (λ v told. gives_audited (audit_at v path target workers) _ _ ran.result _ _ (ran.ensures.written v told)
+    (λ v told. gives_audited c.args.format (audit_at v path target workers) _ _ ran.result _ _
+    (ran.ensures.written v told)
     (ran.ensures.refused v told) (ran.ensures.front v told)) (still_nothing ran.result _ _ ran.ensures.nothing) in
     let counted = opened_count below may_fail opened.0
     (λ n (read : Result Audit RunFault). IfOk read (λ (audit : Audit). n ≡ length (faults audit.findings))) from _ _
@@ -48,12 +50,12 @@ returns-clause-ran g c =
     (λ v told. IfOk-weaker ran.result _ _
     (λ count w. subst (λ read. IfOk read (λ (audit : Audit). count ≡ length (faults audit.findings))) (sym w.1) w.2)
     (ran.ensures.written v told)) in
-    (opened.0, opened.1, rw c.as_str.ensures at told, rw c.as_str.ensures at counted)
+    (opened.0, opened.1, rw c.as_str-path.ensures at told, rw c.as_str-path.ensures at counted)
 
 pub returns-clause-given : goal.returns-clause-given
 returns-clause-given g c =
-    let path = c.as_str.result.now in
+    let path = c.as_str-path.result.now in
     let wrote = audit_below (g.S.Folders.gives c.args.system.now.folders.now) c.args.table.now.source.now _
-    c.in_ok-files.ensures.given path c.args.target.now c.args.workers c.audit_file.result _ _
-    c.audit_file.ensures.given in
-    rw c.as_str.ensures at wrote
+    c.in_ok-files.ensures.given c.args.format path c.args.target.now c.args.workers c.write_audit.result _ _
+    c.write_audit.ensures.given in
+    rw c.as_str-path.ensures at wrote

@@ -4,5 +4,5 @@ pub returns-clause-told : goal.returns-clause-told
 returns-clause-told g c = record {
   between = g.E.Sink.taken c.report-status.new.errors;
   line = record { front = c.report-status.ensures.front; all = c.report-status.ensures.all };
-  hint = c.put_hint.ensures;
+  hint = c.hint.ensures;
 }

@@ -1,5 +1,5 @@
 use Rattle.std.proofs.Common.{◌≡◌, rules}
-use Rattle.icescan_words.specs.declared.answer_format.Format.TheVariants as format
+use Rattle.icescan_forms.specs.declared.format.Format.TheVariants as format
 use Rattle.icescan_commands.proofs.Answering.{gives_json, gives_text}
 use Rattle.icescan_commands.proofs.forms.write_list_plan.Goals as goal
 

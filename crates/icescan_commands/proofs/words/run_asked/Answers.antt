@@ -18,8 +18,9 @@ returns-in-ListPlan-clause-ran g c =
 
 pub returns-in-Plan-clause-ran : goal.returns-in-Plan-clause-ran
 returns-in-Plan-clause-ran g c =
-    let asked : c.args.asked.now ≡ command.Plan c.in-Plan.source c.in-Plan.request c.in-Plan.format c.in-Plan.workers
-    c.in-Plan.path = search rules in
+    let asked : c.args.asked.now ≡
+    command.Plan c.in-Plan.source c.in-Plan.request c.in-Plan.format c.in-Plan.workers c.in-Plan.path =
+    search rules in
     let told = c.plan.ensures.ran in
     rw asked (
       told.0,
@@ -43,7 +44,7 @@ returns-in-Commit-clause-ran g c =
 
 pub returns-in-Show-clause-ran : goal.returns-in-Show-clause-ran
 returns-in-Show-clause-ran g c =
-    let asked : c.args.asked.now ≡ command.Show c.in-Show.source c.in-Show.path = search rules in
+    let asked : c.args.asked.now ≡ command.Show c.in-Show.source c.in-Show.format c.in-Show.path = search rules in
     let told = c.show.ensures.ran in
     rw asked (
       told.0,
@@ -55,8 +56,8 @@ returns-in-Show-clause-ran g c =
 
 pub returns-in-Columns-clause-ran : goal.returns-in-Columns-clause-ran
 returns-in-Columns-clause-ran g c =
-    let asked : c.args.asked.now ≡ command.Columns c.in-Columns.source c.in-Columns.target c.in-Columns.path
-    = search rules in
+    let asked : c.args.asked.now ≡
+    command.Columns c.in-Columns.source c.in-Columns.target c.in-Columns.format c.in-Columns.path = search rules in
     let told = c.columns.ensures.ran in
     rw asked (
       told.0,
@@ -68,7 +69,8 @@ returns-in-Columns-clause-ran g c =
 
 pub returns-in-Explain-clause-ran : goal.returns-in-Explain-clause-ran
 returns-in-Explain-clause-ran g c =
-    let asked : c.args.asked.now ≡ command.Explain c.in-Explain.source c.in-Explain.request c.in-Explain.workers
+    let asked : c.args.asked.now ≡
+    command.Explain c.in-Explain.source c.in-Explain.request c.in-Explain.format c.in-Explain.workers
     c.in-Explain.path = search rules in
     let told = c.explain.ensures.ran in
     rw asked (
@@ -77,6 +79,19 @@ returns-in-Explain-clause-ran g c =
       ran_as _ _ c.explain.result c.no_findings-in-Explain.result _ _
           c.no_findings-in-Explain.ensures.same told.2,
       c.no_findings-in-Explain.ensures.none,
+    )
+
+pub returns-in-Changes-clause-ran : goal.returns-in-Changes-clause-ran
+returns-in-Changes-clause-ran g c =
+    let asked : c.args.asked.now ≡ command.Changes c.in-Changes.source c.in-Changes.from c.in-Changes.request
+    c.in-Changes.workers c.in-Changes.path = search rules in
+    let told = c.changes.ensures.ran in
+    rw asked (
+      told.0,
+      told.1,
+      ran_as _ _ c.changes.result c.no_findings-in-Changes.result _ _
+          c.no_findings-in-Changes.ensures.same told.2,
+      c.no_findings-in-Changes.ensures.none,
     )
 
 pub returns-in-Drill-clause-ran : goal.returns-in-Drill-clause-ran
@@ -95,7 +110,7 @@ returns-in-Drill-clause-ran g c =
 pub returns-in-Locate-clause-ran : goal.returns-in-Locate-clause-ran
 returns-in-Locate-clause-ran g c =
     let left = g.R.Read.remaining c.args.input.now in
-    let asked : c.args.asked.now ≡ command.Locate c.in-Locate.folder c.in-Locate.separator = search rules in
+    let asked : c.args.asked.now ≡ command.Locate c.in-Locate.folder c.in-Locate.located = search rules in
     let none = c.no_findings-in-Locate in
     rw asked (
       left_of left,
@@ -104,6 +119,35 @@ returns-in-Locate-clause-ran g c =
           c.locate.ensures.ran,
       none.ensures.none,
     )
+
+pub returns-in-Reachable-clause-ran : goal.returns-in-Reachable-clause-ran
+returns-in-Reachable-clause-ran g c =
+    let left = g.R.Read.remaining c.args.input.now in
+    let asked : c.args.asked.now ≡ command.Reachable c.in-Reachable.source c.in-Reachable.path = search rules in
+    let none = c.no_findings-in-Reachable in
+    rw asked (
+      left_of left,
+      is_left left,
+      ran_as _ _ c.reachable.result none.result _ _ none.ensures.same
+          c.reachable.ensures.ran,
+      none.ensures.none,
+    )
+
+pub returns-in-Reachable-clause-stored : goal.returns-in-Reachable-clause-stored
+returns-in-Reachable-clause-stored g c =
+    let asked : c.args.asked.now ≡ command.Reachable c.in-Reachable.source c.in-Reachable.path = search rules in
+    rw asked refl
+
+pub returns-in-Reachable-clause-given : goal.returns-in-Reachable-clause-given
+returns-in-Reachable-clause-given g c =
+    let asked : c.args.asked.now ≡ command.Reachable c.in-Reachable.source c.in-Reachable.path = search rules in
+    rw asked (counted_as _ c.reachable.result c.no_findings-in-Reachable.result
+    c.no_findings-in-Reachable.ensures.same c.no_findings-in-Reachable.ensures.none c.reachable.ensures.given)
+
+pub returns-in-Reachable-clause-stored_of_given : goal.returns-in-Reachable-clause-stored_of_given
+returns-in-Reachable-clause-stored_of_given g c =
+    let asked : c.args.asked.now ≡ command.Reachable c.in-Reachable.source c.in-Reachable.path = search rules in
+    rw asked tt
 
 pub returns-in-Drill-clause-drilled : goal.returns-in-Drill-clause-drilled
 returns-in-Drill-clause-drilled g c =
@@ -130,30 +174,38 @@ returns-in-ListPlan-clause-stored g c =
 
 pub returns-in-Plan-clause-stored : goal.returns-in-Plan-clause-stored
 returns-in-Plan-clause-stored g c =
-    let asked : c.args.asked.now ≡ command.Plan c.in-Plan.source c.in-Plan.request c.in-Plan.format c.in-Plan.workers
-    c.in-Plan.path = search rules in
+    let asked : c.args.asked.now ≡
+    command.Plan c.in-Plan.source c.in-Plan.request c.in-Plan.format c.in-Plan.workers c.in-Plan.path =
+    search rules in
     rw asked refl
 
 pub returns-in-Show-clause-stored : goal.returns-in-Show-clause-stored
 returns-in-Show-clause-stored g c =
-    let asked : c.args.asked.now ≡ command.Show c.in-Show.source c.in-Show.path = search rules in
+    let asked : c.args.asked.now ≡ command.Show c.in-Show.source c.in-Show.format c.in-Show.path = search rules in
     rw asked refl
 
 pub returns-in-Columns-clause-stored : goal.returns-in-Columns-clause-stored
 returns-in-Columns-clause-stored g c =
-    let asked : c.args.asked.now ≡ command.Columns c.in-Columns.source c.in-Columns.target c.in-Columns.path
-    = search rules in
+    let asked : c.args.asked.now ≡
+    command.Columns c.in-Columns.source c.in-Columns.target c.in-Columns.format c.in-Columns.path = search rules in
     rw asked refl
 
 pub returns-in-Explain-clause-stored : goal.returns-in-Explain-clause-stored
 returns-in-Explain-clause-stored g c =
-    let asked : c.args.asked.now ≡ command.Explain c.in-Explain.source c.in-Explain.request c.in-Explain.workers
+    let asked : c.args.asked.now ≡
+    command.Explain c.in-Explain.source c.in-Explain.request c.in-Explain.format c.in-Explain.workers
     c.in-Explain.path = search rules in
+    rw asked refl
+
+pub returns-in-Changes-clause-stored : goal.returns-in-Changes-clause-stored
+returns-in-Changes-clause-stored g c =
+    let asked : c.args.asked.now ≡ command.Changes c.in-Changes.source c.in-Changes.from c.in-Changes.request
+    c.in-Changes.workers c.in-Changes.path = search rules in
     rw asked refl
 
 pub returns-in-Locate-clause-stored : goal.returns-in-Locate-clause-stored
 returns-in-Locate-clause-stored g c =
-    let asked : c.args.asked.now ≡ command.Locate c.in-Locate.folder c.in-Locate.separator = search rules in
+    let asked : c.args.asked.now ≡ command.Locate c.in-Locate.folder c.in-Locate.located = search rules in
     rw asked refl
 
 pub returns-in-Drill-clause-stored : goal.returns-in-Drill-clause-stored
@@ -168,8 +220,9 @@ returns-in-Text-clause-stored g c =
 
 pub returns-in-Audit-clause-stored : goal.returns-in-Audit-clause-stored
 returns-in-Audit-clause-stored g c =
-    let asked : c.args.asked.now ≡ command.Audit c.in-Audit.source c.in-Audit.target c.in-Audit.workers
-    c.in-Audit.path = search rules in
+    let asked : c.args.asked.now ≡
+    command.Audit c.in-Audit.source c.in-Audit.target c.in-Audit.format c.in-Audit.workers c.in-Audit.path =
+    search rules in
     rw asked refl
 
 pub returns-in-Commit-clause-stored : goal.returns-in-Commit-clause-stored
@@ -179,8 +232,9 @@ returns-in-Commit-clause-stored g c =
 
 pub returns-in-Audit-clause-ran : goal.returns-in-Audit-clause-ran
 returns-in-Audit-clause-ran g c =
-    let asked : c.args.asked.now ≡ command.Audit c.in-Audit.source c.in-Audit.target c.in-Audit.workers
-    c.in-Audit.path = search rules in
+    let asked : c.args.asked.now ≡
+    command.Audit c.in-Audit.source c.in-Audit.target c.in-Audit.format c.in-Audit.workers c.in-Audit.path =
+    search rules in
     rw asked (c.audit.ensures.ran)
 
 pub returns-in-ListPlan-clause-given : goal.returns-in-ListPlan-clause-given
@@ -199,28 +253,37 @@ returns-in-Plan-clause-given g c =
 
 pub returns-in-Show-clause-given : goal.returns-in-Show-clause-given
 returns-in-Show-clause-given g c =
-    let asked : c.args.asked.now ≡ command.Show c.in-Show.source c.in-Show.path = search rules in
+    let asked : c.args.asked.now ≡ command.Show c.in-Show.source c.in-Show.format c.in-Show.path = search rules in
     rw asked (counted_as _ c.show.result c.no_findings-in-Show.result c.no_findings-in-Show.ensures.same
     c.no_findings-in-Show.ensures.none c.show.ensures.given)
 
 pub returns-in-Columns-clause-given : goal.returns-in-Columns-clause-given
 returns-in-Columns-clause-given g c =
-    let asked : c.args.asked.now ≡ command.Columns c.in-Columns.source c.in-Columns.target c.in-Columns.path
-    = search rules in
+    let asked : c.args.asked.now ≡
+    command.Columns c.in-Columns.source c.in-Columns.target c.in-Columns.format c.in-Columns.path = search rules in
     rw asked (counted_as _ c.columns.result c.no_findings-in-Columns.result c.no_findings-in-Columns.ensures.same
     c.no_findings-in-Columns.ensures.none c.columns.ensures.given)
 
 pub returns-in-Explain-clause-given : goal.returns-in-Explain-clause-given
 returns-in-Explain-clause-given g c =
-    let asked : c.args.asked.now ≡ command.Explain
-    c.in-Explain.source c.in-Explain.request c.in-Explain.workers c.in-Explain.path = search rules in
+    let asked : c.args.asked.now ≡
+    command.Explain c.in-Explain.source c.in-Explain.request c.in-Explain.format c.in-Explain.workers
+    c.in-Explain.path = search rules in
     rw asked (counted_as _ c.explain.result c.no_findings-in-Explain.result c.no_findings-in-Explain.ensures.same
     c.no_findings-in-Explain.ensures.none c.explain.ensures.given)
+
+pub returns-in-Changes-clause-given : goal.returns-in-Changes-clause-given
+returns-in-Changes-clause-given g c =
+    let asked : c.args.asked.now ≡ command.Changes c.in-Changes.source c.in-Changes.from c.in-Changes.request
+    c.in-Changes.workers c.in-Changes.path = search rules in
+    rw asked (counted_as _ c.changes.result c.no_findings-in-Changes.result c.no_findings-in-Changes.ensures.same
+    c.no_findings-in-Changes.ensures.none c.changes.ensures.given)
 
 pub returns-in-Audit-clause-given : goal.returns-in-Audit-clause-given
 returns-in-Audit-clause-given g c =
     let asked : c.args.asked.now ≡
-    command.Audit c.in-Audit.source c.in-Audit.target c.in-Audit.workers c.in-Audit.path = search rules in
+    command.Audit c.in-Audit.source c.in-Audit.target c.in-Audit.format c.in-Audit.workers c.in-Audit.path =
+    search rules in
     rw asked (c.audit.ensures.given)
 
 pub returns-in-Commit-clause-given : goal.returns-in-Commit-clause-given
@@ -230,7 +293,7 @@ returns-in-Commit-clause-given g c =
 
 pub returns-in-Locate-clause-given : goal.returns-in-Locate-clause-given
 returns-in-Locate-clause-given g c =
-    let asked : c.args.asked.now ≡ command.Locate c.in-Locate.folder c.in-Locate.separator = search rules in
+    let asked : c.args.asked.now ≡ command.Locate c.in-Locate.folder c.in-Locate.located = search rules in
     rw asked (any_count c.no_findings-in-Locate.result)
 
 pub returns-in-Drill-clause-given : goal.returns-in-Drill-clause-given
@@ -257,19 +320,26 @@ returns-in-Plan-clause-stored_of_given g c =
 
 pub returns-in-Show-clause-stored_of_given : goal.returns-in-Show-clause-stored_of_given
 returns-in-Show-clause-stored_of_given g c =
-    let asked : c.args.asked.now ≡ command.Show c.in-Show.source c.in-Show.path = search rules in
+    let asked : c.args.asked.now ≡ command.Show c.in-Show.source c.in-Show.format c.in-Show.path = search rules in
     rw asked tt
 
 pub returns-in-Columns-clause-stored_of_given : goal.returns-in-Columns-clause-stored_of_given
 returns-in-Columns-clause-stored_of_given g c =
-    let asked : c.args.asked.now ≡ command.Columns c.in-Columns.source c.in-Columns.target c.in-Columns.path =
-    search rules in
+    let asked : c.args.asked.now ≡
+    command.Columns c.in-Columns.source c.in-Columns.target c.in-Columns.format c.in-Columns.path = search rules in
     rw asked tt
 
 pub returns-in-Explain-clause-stored_of_given : goal.returns-in-Explain-clause-stored_of_given
 returns-in-Explain-clause-stored_of_given g c =
-    let asked : c.args.asked.now ≡ command.Explain
-    c.in-Explain.source c.in-Explain.request c.in-Explain.workers c.in-Explain.path = search rules in
+    let asked : c.args.asked.now ≡
+    command.Explain c.in-Explain.source c.in-Explain.request c.in-Explain.format c.in-Explain.workers
+    c.in-Explain.path = search rules in
+    rw asked tt
+
+pub returns-in-Changes-clause-stored_of_given : goal.returns-in-Changes-clause-stored_of_given
+returns-in-Changes-clause-stored_of_given g c =
+    let asked : c.args.asked.now ≡ command.Changes c.in-Changes.source c.in-Changes.from c.in-Changes.request
+    c.in-Changes.workers c.in-Changes.path = search rules in
     rw asked tt
 
 pub returns-in-Drill-clause-stored_of_given : goal.returns-in-Drill-clause-stored_of_given
@@ -285,7 +355,8 @@ returns-in-Text-clause-stored_of_given g c =
 pub returns-in-Audit-clause-stored_of_given : goal.returns-in-Audit-clause-stored_of_given
 returns-in-Audit-clause-stored_of_given g c =
     let asked : c.args.asked.now ≡
-    command.Audit c.in-Audit.source c.in-Audit.target c.in-Audit.workers c.in-Audit.path = search rules in
+    command.Audit c.in-Audit.source c.in-Audit.target c.in-Audit.format c.in-Audit.workers c.in-Audit.path =
+    search rules in
     rw asked tt
 
 pub returns-in-Commit-clause-stored_of_given : goal.returns-in-Commit-clause-stored_of_given
@@ -295,5 +366,5 @@ returns-in-Commit-clause-stored_of_given g c =
 
 pub returns-in-Locate-clause-stored_of_given : goal.returns-in-Locate-clause-stored_of_given
 returns-in-Locate-clause-stored_of_given g c =
-    let asked : c.args.asked.now ≡ command.Locate c.in-Locate.folder c.in-Locate.separator = search rules in
+    let asked : c.args.asked.now ≡ command.Locate c.in-Locate.folder c.in-Locate.located = search rules in
     rw asked tt

@@ -1,0 +1,28 @@
+use Rattle.std.proofs.Common.{◌≡◌, rules}
+use Rattle.icescan_forms.specs.declared.format.Format.TheVariants as format
+use Rattle.icescan_commands.proofs.Answering.{gives_explained}
+use Rattle.icescan_commands.proofs.forms.write_explained.Goals as goal
+
+pub returns-in-Text-clause-answers : goal.returns-in-Text-clause-answers
+returns-in-Text-clause-answers g c =
+    let asked : c.args.format ≡ format.Text = search rules in
+    rw asked (λ world told. gives_explained format.Text _ _ _ c.explain_file.result _ _
+    (c.explain_file.ensures.written world told)
+    (c.explain_file.ensures.refused world told) (c.explain_file.ensures.front world told))
+
+pub returns-in-Json-clause-answers : goal.returns-in-Json-clause-answers
+returns-in-Json-clause-answers g c =
+    let asked : c.args.format ≡ format.Json = search rules in
+    rw asked (λ world told. gives_explained format.Json _ _ _ c.explain_file_json.result _ _
+    (c.explain_file_json.ensures.written world told)
+    (c.explain_file_json.ensures.refused world told) (c.explain_file_json.ensures.front world told))
+
+pub returns-in-Text-clause-given : goal.returns-in-Text-clause-given
+returns-in-Text-clause-given g c =
+    let asked : c.args.format ≡ format.Text = search rules in
+    rw asked c.explain_file.ensures.given
+
+pub returns-in-Json-clause-given : goal.returns-in-Json-clause-given
+returns-in-Json-clause-given g c =
+    let asked : c.args.format ≡ format.Json = search rules in
+    rw asked c.explain_file_json.ensures.given

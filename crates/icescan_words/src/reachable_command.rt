@@ -1,0 +1,36 @@
+//! The command `reachable`.
+
+use crate::command_line::{described, over_files};
+use crate::parameter::Parameter;
+use crate::parameters::{BUNDLE, DIR, METADATA, PREFIX, QUIET};
+use clap::Command;
+use std::alloc::{AllocError, Global};
+
+const REACHABLE_EXAMPLE: &str =
+    "A line for each file that the table needs, in the order of the lines' bytes, each
+once: `metadata` (the file itself and those of its metadata log), `statistics`,
+`list` and `manifest` (those of every snapshot that the metadata has, also of one
+that no branch or tag names), `data` and `delete` (the files that a snapshot has
+live). A path is escaped, as in a plan.
+Every manifest list is read, and every manifest once. Where one is absent, can't
+be read or is compressed, nothing is printed.
+
+Example, at the top of icescan's repository:
+  icescan reachable --dir examples/events-java/table --prefix s3://warehouse/db/events \\
+    s3://warehouse/db/events/metadata/00009-ea5012f5-592b-59fd-6564-e953f439e682.metadata.json
+
+Exit status: 0 done, 1 the metadata, a manifest list or a manifest is refused, 2
+the command line or the bundle is, 3 a read or a write failed, 5 memory ran out.
+A refusal is one line on standard error.";
+
+const REACHABLE: &[Parameter] = &[METADATA, BUNDLE, DIR, PREFIX, QUIET];
+
+/// The command `reachable`.
+pub fn reachable_command<'a>(alloc: Global) -> Result<Command<'a>, AllocError> {
+    let about = "Print every file that a snapshot of the table needs";
+    over_files(
+        alloc,
+        described(alloc, "reachable", about, REACHABLE_EXAMPLE),
+        REACHABLE,
+    )
+}
