@@ -345,7 +345,13 @@ abbrev pub RanWithoutHint : Given → List (List ℕ) → Left → Type 0
 RanWithoutHint given texts left = (asked : Result Command RunFault) × ReadAs texts asked
     × (text : List ℕ) × IsInput given.input text × (Wrote given asked text left ⊎ Refused given asked text left)
 
--- the same, but that notes may stand beside the answer, and a hint after the line of a fault
+-- What is said of a run as which these words were read: notes may stand beside the answer, and a hint after the line
+-- of a fault.
+abbrev pub RanAsWithHint : Given → Result Command RunFault → Left → Type 0
+RanAsWithHint given asked left = (text : List ℕ) × IsInput given.input text
+    × (WroteWithNotes given asked text left ⊎ Explained given asked text left)
+
+-- the same of a run by its words
 abbrev pub RanWithHint : Given → List (List ℕ) → Left → Type 0
 RanWithHint given texts left = (asked : Result Command RunFault) × ReadAs texts asked
     × (text : List ℕ) × IsInput given.input text

@@ -1,8 +1,8 @@
 //! The program where a user reads what it writes: notes stand beside an answer and a hint after the line of a fault, and
 //! what is read is shown.
 
-ghost use Rattle.std.specs.Prelude.{◌≡◌, ◌∷◌, [], true, false, map, string_bytes, codes, IfOk};
-ghost use Rattle.icescan_commands.specs.Runs.{RanWithHint, RanWithoutHint, ToldWithHint, meant};
+ghost use Rattle.std.specs.Prelude.{◌≡◌, ◌∷◌, [], true, false, map, string_bytes, codes, IfOk, Ok};
+ghost use Rattle.icescan_commands.specs.Runs.{RanAsWithHint, RanWithHint, RanWithoutHint, ToldWithHint, meant};
 ghost use Rattle.icescan_progress.specs.Asked.{hints, shows_progress};
 ghost use Rattle.icescan_progress.specs.Hints.{AppendsPlain};
 ghost use Rattle.icescan_text.specs.Faults.{status_of};
@@ -76,6 +76,53 @@ fn explain_words<E: Sink>(alloc: Global, words: &[String], fault: &RunFault, err
     status
 }
 
+/// Runs a command, and writes notes beside its answer, or a hint after the line of its fault.
+fn run_command<H, S: Folders + Sync, P: Progress + Sync, K: Stores, R: Read, W: Sink, E: Sink>(
+    system: &System<'_, H, S, P>,
+    asked: &Command,
+    stores: &mut K,
+    input: &mut R,
+    output: &mut W,
+    errors: &mut E,
+) -> u8
+where
+    H: Threads + Wait + Watch + Looks + Sync,
+    requires { P.may_be_told system.now.progress.now ≡ true }
+    ensures { RanAsWithHint (record {
+      below = S.below system.now.folders.now;
+      gives = S.gives system.now.folders.now;
+      read_may_fail = S.may_fail system.now.folders.now;
+      stored = K.below stores.old;
+      put_may_fail = K.below_may_fail stores.old;
+      input = R.remaining input.old;
+      output = W.taken output.old;
+      write_may_fail = W.may_fail output.old;
+      errors = E.taken errors.old;
+      tell_may_fail = E.may_fail errors.old;
+    }) (Ok asked.now)
+        (record {
+          status = result;
+          stored = K.below stores.new;
+          files = K.files stores.new;
+          output = W.taken output.new;
+          errors = E.taken errors.new;
+        }) }
+{
+    let files = folder_of(system.folders, asked);
+    let case = Case {
+        asked,
+        files: files.as_ref(),
+    };
+    put_reading(system.alloc, &case, errors);
+    match run_asked(system, asked, stores, input, output) {
+        Ok(count) => {
+            put_notes(system.alloc, &case, errors);
+            status_of_count(count)
+        }
+        Err(fault) => explain(system.host, system.alloc, &case, &fault, errors),
+    }
+}
+
 /// Runs the program as `run_words` does, and writes notes beside the answer, or a hint after the line of a fault.
 fn run_explained<H, S: Folders + Sync, P: Progress + Sync, K: Stores, R: Read, W: Sink, E: Sink>(
     system: &System<'_, H, S, P>,
@@ -109,21 +156,7 @@ where
         }) }
 {
     match parse_words(system.alloc, words) {
-        Ok(asked) => {
-            let files = folder_of(system.folders, &asked);
-            let case = Case {
-                asked: &asked,
-                files: files.as_ref(),
-            };
-            put_reading(system.alloc, &case, errors);
-            match run_asked(system, &asked, stores, input, output) {
-                Ok(count) => {
-                    put_notes(system.alloc, &case, errors);
-                    status_of_count(count)
-                }
-                Err(fault) => explain(system.host, system.alloc, &case, &fault, errors),
-            }
-        }
+        Ok(asked) => run_command(system, &asked, stores, input, output, errors),
         Err(fault) => explain_words(system.alloc, words, &fault, errors),
     }
 }
