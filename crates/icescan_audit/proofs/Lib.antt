@@ -5,4 +5,5 @@ pub mod Strays
 pub mod Steps
 pub mod Ranges
 mod Sends
+pub mod Honest
 pub mod JsonWritten

@@ -9,6 +9,7 @@ use Rattle.icescan_audit_findings.specs.Bases.{among}
 use Rattle.icescan_audit_findings.specs.Dangling.{delete_findings}
 use Rattle.icescan_audit_findings.specs.Findings.{manifest_findings}
 use Rattle.icescan_audit_findings.specs.Repeats.{live_files, repeats}
+use Rattle.icescan_audit_findings.specs.RowFlaws.{row_findings}
 use Rattle.ice_manifest_reading.specs.Laws.{HasACellForEach}
 use Rattle.ice_manifest_reading.specs.Manifests.{live_of}
 use Rattle.ice_manifest_reading.specs.Tallying.{tallies_of}
@@ -23,16 +24,16 @@ use Rattle.ice_state.specs.Specs.{spec_of}
 use Rattle.icescan_text.specs.Reads.{as_run, file_in, rows_at}
 use Rattle.icescan_text.specs.declared.fault.RunFault.{RunFault}
 use Rattle.icescan_text.proofs.Steps.{bytes_in, step}
-use Rattle.icescan_audit.specs.Audits.{all_known, audit_of, joined, nothing, of_manifest, or_unknown, row_audit}
-use Rattle.icescan_audit.specs.Audits.{rows_audit, spec_for, whole}
+use Rattle.icescan_audit.specs.Audits.{all_known, audit_of, bytes_findings, joined, nothing, of_manifest, or_unknown}
+use Rattle.icescan_audit.specs.Audits.{row_audit, rows_audit, spec_for, whole}
 use Rattle.icescan_audit.specs.Premises.{HasTrueSummaries, HasTrueSummariesAt}
 use Rattle.icescan_audit.specs.Subjects.{subject_of}
 use Rattle.icescan_audit.specs.declared.audit.Audit.{Audit}
 use Rattle.icescan_audit.specs.declared.audit.Reading.{Reading}
 use Rattle.icescan_audit.specs.declared.subject.Subject.{Subject}
 use Rattle.icescan_audit_findings.proofs.Telltale.{told_of_covered, told_of_manifest}
-use Rattle.icescan_audit_findings.proofs.Told.{no_delete_findings, no_repeats, none_of_all, none_of_both}
-use Rattle.icescan_audit_findings.proofs.Told.{uncovered_are_faults}
+use Rattle.icescan_audit_findings.proofs.Told.{no_delete_findings, no_repeats, no_row_findings, none_of_all}
+use Rattle.icescan_audit_findings.proofs.Told.{none_of_both, uncovered_are_faults}
 use Rattle.icescan_audit_findings.specs.Telling.{faults, uncovered}
 
 -- ---- reading step by step
@@ -54,7 +55,7 @@ pub record IsRowOf (world : World) (basis : Basis) (row : Row) (audit : Reading)
   pub spec_is : spec_of basis.specs row.spec_id ≡ Some spec
   pub bytes_are : world row.path ≡ Some bytes
   pub lives_are : live_of row spec bytes ≡ Ok lives
-  pub findings_are : audit.findings ≡ manifest_findings basis row spec (tallies_of bytes) lives
+  pub findings_are : audit.findings ≡ bytes_findings basis row spec bytes lives
   pub live_is : audit.live ≡ live_files basis row lives
 
 pub row_of : (world : World) (basis : Basis) (row : Row) (audit : Reading) → row_audit world basis row ≡ Ok audit
@@ -67,7 +68,7 @@ row_of world basis row audit h =
     let here : record {
       manifests = 1;
       entries = length three.0;
-      findings = manifest_findings basis row one.0 (tallies_of two.0) three.0;
+      findings = bytes_findings basis row one.0 two.0 three.0;
       live = live_files basis row three.0;
     } ≡ audit = cc three.2 in
     record {
@@ -99,16 +100,18 @@ row_covered full world basis row audit h none =
     subst (AllByRecursion (λ (l : Live). RowCovers basis.specs row l.entry.file.tuple))
     (sym (live_are world basis row audit r))
     (told_of_manifest full basis row r.spec r.spec_is r.bytes (tallies_of r.bytes) r.lives r.lives_are
-    (ap uncovered (sym r.findings_are) ∙ none))
+    (none_of_both (row_findings basis row r.bytes) (manifest_findings basis row r.spec (tallies_of r.bytes) r.lives)
+    (ap uncovered (sym r.findings_are) ∙ none)).1)
 
 row_none : (world : World) (basis : Basis) (row : Row) (audit : Reading) → row_audit world basis row ≡ Ok audit
     → IsRowCovered world basis row → uncovered audit.findings ≡ []
 row_none world basis row audit h covered =
     let r = row_of world basis row audit h in
     ap uncovered r.findings_are
-    ∙ told_of_covered basis row r.spec r.spec_is (tallies_of r.bytes) r.lives
+    ∙ none_of_all (row_findings basis row r.bytes) (manifest_findings basis row r.spec (tallies_of r.bytes) r.lives)
+    (no_row_findings basis row r.bytes) (told_of_covered basis row r.spec r.spec_is (tallies_of r.bytes) r.lives
     (subst (AllByRecursion (λ (l : Live). RowCovers basis.specs row l.entry.file.tuple))
-    (live_are world basis row audit r) covered)
+    (live_are world basis row audit r) covered))
 
 -- ---- the manifests of all rows
 

@@ -9,7 +9,6 @@ use Rattle.contract_words.specs.Outcome.{◌>>=◌}
 use Rattle.icescan_audit_findings.specs.declared.basis.Basis.{Basis}
 use Rattle.icescan_audit_findings.specs.declared.finding.Finding.{Finding}
 use Rattle.icescan_audit_findings.specs.Bases.{among}
-use Rattle.icescan_audit_findings.specs.Findings.{manifest_findings}
 use Rattle.icescan_audit_findings.specs.Repeats.{live_files}
 use Rattle.icescan_audit_findings.specs.declared.repeats.LiveFile.{LiveFile}
 use Rattle.ice_desk.specs.Wanted.{paths_of}
@@ -17,7 +16,6 @@ use Rattle.ice_desk.specs.Worlds.{EndsAt}
 use Rattle.ice_manifest_fields.specs.declared.fault.ManifestFault.{ManifestFault}
 use Rattle.ice_manifest_fields.specs.declared.fault.ManifestFault.TheVariants as manifest
 use Rattle.ice_manifest_reading.specs.Manifests.{live_of}
-use Rattle.ice_manifest_reading.specs.Tallying.{tallies_of}
 use Rattle.ice_manifest_reading.specs.declared.entry.Live.{Live}
 use Rattle.ice_manifest_reading.specs.declared.row.Row.{Row}
 use Rattle.ice_meta.specs.declared.metadata.Target.{Target}
@@ -30,7 +28,8 @@ use Rattle.icescan_text.proofs.Enough.{enough, not_enough}
 use Rattle.icescan_text.specs.Reads.{MayEnd, as_run, file_in, rows_at, rows_in}
 use Rattle.icescan_text.specs.declared.fault.RunFault.{RunFault}
 use Rattle.icescan_text.specs.declared.fault.RunFault.TheVariants as run
-use Rattle.icescan_audit.specs.Audits.{all_known, audit_at, audit_of, audit_reads, audit_reads_at, joined}
+use Rattle.icescan_audit.specs.Audits.{all_known, audit_at, audit_of, audit_reads, audit_reads_at, bytes_findings}
+use Rattle.icescan_audit.specs.Audits.{joined}
 use Rattle.icescan_audit.specs.Audits.{manifests_of, nothing, of_manifest, reads_behind}
 use Rattle.icescan_audit.specs.Audits.{or_unknown, reads_of, row_audit, rows_audit, spec_for, whole}
 use Rattle.icescan_audit.specs.Subjects.{IsOfMetadata, subject_of}
@@ -92,7 +91,7 @@ module _ (f : List ℕ → Type 0) (world : World) (basis : Basis) (row : Row) w
           ≡ Ok (record {
             manifests = 1;
             entries = length lives;
-            findings = manifest_findings basis row spec (tallies_of bytes) lives;
+            findings = bytes_findings basis row spec bytes lives;
             live = live_files basis row lives;
           })
       unfolding row_audit
@@ -188,6 +187,7 @@ metadata_ends read r w (run.Scan f) is h = absurd is
 metadata_ends read r w (run.Finish f) is h = absurd is
 metadata_ends read r w (run.Drill f) is h = absurd is
 metadata_ends read r w (run.Locate f) is h = absurd is
+metadata_ends read r w (run.Lineage f) is h = absurd is
 metadata_ends read r w (run.Change f) is h = absurd is
 metadata_ends read r w (run.Prepare f) is h = absurd is
 metadata_ends read r w (run.Conflict path) is h = absurd is

@@ -5,7 +5,6 @@ use Rattle.std.specs.Prelude.{Ok, if◌then◌else◌}
 use Rattle.std.specs.List.{Contains, filter_map}
 use Rattle.std.specs.Option.{option_and_then}
 use Rattle.std.proofs.lemmas.List.Elements.{Contains-append_cases, Contains-append_left, Contains-append_right}
-use Rattle.ice_manifest_reading.specs.Tallying.{tallies_of}
 use Rattle.icescan_audit_findings.specs.Bases.{among, has_content_of_deletes, have_deletes}
 use Rattle.icescan_audit_findings.specs.Dangling.{dangling_flaw, data_by, data_files, data_key, data_of, delete_by}
 use Rattle.icescan_audit_findings.specs.Dangling.{delete_files}
@@ -43,7 +42,7 @@ use Rattle.icescan_audit.specs.declared.audit.Audit.{Audit}
 use Rattle.icescan_audit.specs.declared.subject.Subject.{Subject}
 use Rattle.icescan_audit.specs.Strays.{DanglesUnder, NamesNoneUnder}
 use Rattle.icescan_audit.specs.declared.audit.Reading.{Reading}
-use Rattle.icescan_audit.proofs.Others.{AreOthers, both_others, is_on_deletes, manifest_other, repeats_other}
+use Rattle.icescan_audit.proofs.Others.{AreOthers, both_others, bytes_other, is_on_deletes, repeats_other}
 use Rattle.icescan_audit.proofs.Premise.{live_are, one_value, parts_of, row_of, rows_parts}
 
 -- ---- what is kept of a list
@@ -163,7 +162,7 @@ module _ (world : World) (basis : Basis) where
       let p = rows_parts world basis row rows read h in
       let r = row_of world basis row p.0 p.2 in
       let first : AreOthers p.0.findings = subst AreOthers (sym r.findings_are)
-      (manifest_other basis row r.spec (tallies_of r.bytes) r.lives) in
+      (bytes_other basis row r.spec r.bytes r.lives) in
       subst AreOthers (sym p.4) (both_others p.0.findings p.1.findings first (others rows p.1 p.3))
 
   from_rows : (rows : List Row) (read : Reading) → rows_audit world basis rows ≡ Ok read → (x : LiveFile)

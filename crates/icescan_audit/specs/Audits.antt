@@ -6,9 +6,12 @@ use Rattle.icescan_audit_findings.specs.Bases.{among}
 use Rattle.icescan_audit_findings.specs.Dangling.{delete_findings}
 use Rattle.icescan_audit_findings.specs.Findings.{manifest_findings}
 use Rattle.icescan_audit_findings.specs.Repeats.{live_files, repeats}
+use Rattle.icescan_audit_findings.specs.RowFlaws.{row_findings}
+use Rattle.icescan_audit_findings.specs.declared.finding.Finding.{Finding}
 use Rattle.ice_desk.specs.Wanted.{paths_of}
 use Rattle.ice_manifest_fields.specs.declared.fault.ManifestFault.{ManifestFault}
 use Rattle.ice_manifest_fields.specs.declared.fault.ManifestFault.TheVariants as manifest
+use Rattle.ice_manifest_reading.specs.declared.entry.Live.{Live}
 use Rattle.ice_manifest_reading.specs.declared.row.Row.{Row}
 use Rattle.ice_manifest_reading.specs.Manifests.{live_of}
 use Rattle.ice_manifest_reading.specs.Tallying.{tallies_of}
@@ -57,6 +60,11 @@ joined a b = record {
   live = a.live ++ b.live;
 }
 
+-- what is found of a row and of its manifest, which has these bytes and these live entries
+abbrev pub bytes_findings : Basis → Row → Spec → List ℕ → List Live → List Finding
+bytes_findings basis row spec bytes lives =
+    row_findings basis row bytes ++ manifest_findings basis row spec (tallies_of bytes) lives
+
 -- what is read of a row's manifest, or the first refusal: its spec is missing, it is absent, or it can't be read
 unfoldable pub row_audit : World → Basis → Row → Result Reading RunFault
 row_audit world basis row = do
@@ -66,7 +74,7 @@ row_audit world basis row = do
   Ok (record {
     manifests = 1;
     entries = length lives;
-    findings = manifest_findings basis row spec (tallies_of bytes) lives;
+    findings = bytes_findings basis row spec bytes lives;
     live = live_files basis row lives;
   })
 

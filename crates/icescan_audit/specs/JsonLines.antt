@@ -7,7 +7,7 @@ use Rattle.ice_meta.specs.declared.metadata.Target.{Target}
 use Rattle.icescan_audit_findings.specs.declared.finding.Finding.{Finding}
 use Rattle.icescan_audit_findings.specs.declared.finding.Flaw.{Flaw}
 use Rattle.icescan_audit_findings.specs.declared.finding.Flaw.TheVariants.{BoundsCross, ExcessNulls, NoColumn}
-use Rattle.icescan_audit_findings.specs.declared.finding.Flaw.TheVariants.{Uncovered}
+use Rattle.icescan_audit_findings.specs.declared.finding.Flaw.TheVariants.{OfColumn, OfField, Uncovered}
 use Rattle.icescan_audit_findings.specs.Telling.{faults, is_fault}
 use Rattle.icescan_audit.specs.AnyFiles.{IsAnAudit}
 use Rattle.icescan_audit.specs.Texts.{audit_text, flaw_name}
@@ -25,12 +25,14 @@ level flaw = if is_fault flaw then codes "fault" else codes "note"
 -- the partition field that a flaw is about, and the id of the column
 abbrev pub field_json : Flaw → Data
 field_json (Uncovered field) = string field
+field_json (OfField flaw field) = string field
 field_json _ = null
 
 abbrev pub column_json : Flaw → Data
 column_json (NoColumn id) = number_json id
 column_json (BoundsCross id) = number_json id
 column_json (ExcessNulls id) = number_json id
+column_json (OfColumn flaw id) = number_json id
 column_json _ = null
 
 -- a finding; what it is not about is null

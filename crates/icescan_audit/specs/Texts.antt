@@ -4,6 +4,16 @@ use Rattle.std.specs.List.{flat_map}
 use Rattle.icescan_audit_findings.specs.declared.finding.Count.{Count}
 use Rattle.icescan_audit_findings.specs.declared.finding.Count.TheVariants.{AddedFiles, ExistingFiles, DeletedFiles}
 use Rattle.icescan_audit_findings.specs.declared.finding.Count.TheVariants.{AddedRows, ExistingRows, DeletedRows}
+use Rattle.icescan_audit_findings.specs.declared.finding.ColumnFlaw.{ColumnFlaw}
+use Rattle.icescan_audit_findings.specs.declared.finding.ColumnFlaw.TheVariants.{BoundsOfNulls, NegativeCounts}
+use Rattle.icescan_audit_findings.specs.declared.finding.EntryFlaw.{EntryFlaw}
+use Rattle.icescan_audit_findings.specs.declared.finding.EntryFlaw.TheVariants.{AboveManifest, NegativeSize}
+use Rattle.icescan_audit_findings.specs.declared.finding.EntryFlaw.TheVariants.{NoEqualityIds, UnknownFormat}
+use Rattle.icescan_audit_findings.specs.declared.finding.FieldFlaw.{FieldFlaw}
+use Rattle.icescan_audit_findings.specs.declared.finding.FieldFlaw.TheVariants.{OtherNulls, OutsideBounds, Unbounded}
+use Rattle.icescan_audit_findings.specs.declared.finding.RowFlaw.{RowFlaw}
+use Rattle.icescan_audit_findings.specs.declared.finding.RowFlaw.TheVariants.{AboveSnapshot, OtherContent, OtherLength}
+use Rattle.icescan_audit_findings.specs.declared.finding.RowFlaw.TheVariants.{OtherSpec, OtherSummaries}
 use Rattle.icescan_audit_findings.specs.declared.finding.Finding.{Finding}
 use Rattle.icescan_audit_findings.specs.declared.finding.Flaw.{Flaw}
 use Rattle.icescan_audit_findings.specs.declared.finding.Flaw.TheVariants.{Miscounted, Uncovered, BelowLeast, AboveLast}
@@ -11,6 +21,7 @@ use Rattle.icescan_audit_findings.specs.declared.finding.Flaw.TheVariants.{LiveT
 use Rattle.icescan_audit_findings.specs.declared.finding.Flaw.TheVariants.{ExcessNulls}
 use Rattle.icescan_audit_findings.specs.declared.finding.Flaw.TheVariants.{NamedNotLive, DanglingPositions}
 use Rattle.icescan_audit_findings.specs.declared.finding.Flaw.TheVariants.{DanglingEqualities}
+use Rattle.icescan_audit_findings.specs.declared.finding.Flaw.TheVariants.{OfColumn, OfEntry, OfField, OfRow}
 use Rattle.icescan_audit_findings.specs.Telling.{faults}
 use Rattle.icescan_print.specs.Pieces.{named_number, named_path, named_signed}
 use Rattle.icescan_print.specs.Written.{Appends, AppendsFront}
@@ -26,6 +37,29 @@ count_name AddedRows = codes "added-rows"
 count_name ExistingRows = codes "existing-rows"
 count_name DeletedRows = codes "deleted-rows"
 
+-- what is wrong with a row, an entry, a column and a value of a partition field
+abbrev pub row_flaw_name : RowFlaw → List ℕ
+row_flaw_name OtherSpec = codes "other-spec"
+row_flaw_name OtherContent = codes "other-content"
+row_flaw_name OtherLength = codes "other-length"
+row_flaw_name OtherSummaries = codes "other-summaries"
+row_flaw_name AboveSnapshot = codes "above-snapshot"
+
+abbrev pub entry_flaw_name : EntryFlaw → List ℕ
+entry_flaw_name AboveManifest = codes "above-manifest"
+entry_flaw_name NoEqualityIds = codes "no-equality-ids"
+entry_flaw_name NegativeSize = codes "negative-size"
+entry_flaw_name UnknownFormat = codes "unknown-format"
+
+abbrev pub column_flaw_name : ColumnFlaw → List ℕ
+column_flaw_name NegativeCounts = codes "negative-counts"
+column_flaw_name BoundsOfNulls = codes "bounds-of-nulls"
+
+abbrev pub field_flaw_name : FieldFlaw → List ℕ
+field_flaw_name Unbounded = codes "unbounded"
+field_flaw_name OtherNulls = codes "other-nulls"
+field_flaw_name OutsideBounds = codes "outside-bounds"
+
 -- what is wrong, in a word
 abbrev pub flaw_name : Flaw → List ℕ
 flaw_name (Miscounted count) = count_name count
@@ -39,6 +73,10 @@ flaw_name (ExcessNulls id) = codes "excess-nulls"
 flaw_name NamedNotLive = codes "named-not-live"
 flaw_name DanglingPositions = codes "dangling-position-deletes"
 flaw_name DanglingEqualities = codes "dangling-equality-deletes"
+flaw_name (OfRow flaw) = row_flaw_name flaw
+flaw_name (OfEntry flaw) = entry_flaw_name flaw
+flaw_name (OfColumn flaw id) = column_flaw_name flaw
+flaw_name (OfField flaw field) = field_flaw_name flaw
 
 -- the field or the column that it is about
 abbrev pub flaw_end : Flaw → List ℕ
@@ -53,6 +91,10 @@ flaw_end LiveTwice = []
 flaw_end NamedNotLive = []
 flaw_end DanglingPositions = []
 flaw_end DanglingEqualities = []
+flaw_end (OfRow flaw) = []
+flaw_end (OfEntry flaw) = []
+flaw_end (OfColumn flaw id) = named_signed (codes " column ") id
+flaw_end (OfField flaw field) = named_path (codes " field ") field
 
 -- the file that it is about
 abbrev pub file_text : Option (List ℕ) → List ℕ

@@ -27,7 +27,7 @@ fn field_value(flaw: &Flaw) -> Value<'_>
     ensures { value_json result ≡ field_json flaw.now }
 {
     match flaw {
-        Flaw::Uncovered(field) => Value::Text(field.get().as_bytes()),
+        Flaw::Uncovered(field) | Flaw::OfField(_, field) => Value::Text(field.get().as_bytes()),
         _ => Value::Null,
     }
 }
@@ -37,6 +37,7 @@ fn column_value(flaw: &Flaw) -> Value<'_>
 {
     match flaw {
         Flaw::NoColumn(id) | Flaw::BoundsCross(id) | Flaw::ExcessNulls(id) => Value::Int(*id),
+        Flaw::OfColumn(_, id) => Value::Int(*id),
         _ => Value::Null,
     }
 }

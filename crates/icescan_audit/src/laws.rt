@@ -3,8 +3,8 @@
 ghost use Rattle.std.specs.Prelude.{◌≡◌, ◌↔◌, ℕ, List, [], Ok, Some};
 ghost use Rattle.std.specs.List.{Contains};
 ghost use Rattle.icescan_audit.specs.Audits.{audit_of};
-ghost use Rattle.icescan_audit_findings.specs.Telling.{uncovered};
-ghost use Rattle.icescan_audit.specs.Premises.{HasTrueSummaries};
+ghost use Rattle.icescan_audit_findings.specs.Telling.{faults, uncovered};
+ghost use Rattle.icescan_audit.specs.Premises.{HasHonestFiles, HasTrueSummaries};
 ghost use Rattle.icescan_audit.specs.Strays.{DanglesUnder, NamesNoneUnder};
 ghost use Rattle.icescan_audit.specs.Subjects.{subject_of};
 ghost use Rattle.icescan_audit.specs.declared.audit.Audit.{Audit};
@@ -27,6 +27,15 @@ pub fn audits_tell_of_summaries()
 {
     contents_fit();
 }
+
+/// Where the audit of a snapshot has no fault, its live files are honest as far as metadata can tell: of each column of
+/// the schema there are values of which all is true that the file's manifest says of the column, and where the column is
+/// that of an identity field, they are the field's value.
+pub fn audits_tell_of_files()
+    ensures { (world : World) (metadata : List ℕ) (target : Target) (audit : Audit) →
+        audit_of world metadata target ≡ Ok audit → faults audit.findings ≡ [] →
+        HasHonestFiles world metadata target }
+{}
 
 /// The audit of a snapshot has a finding that a delete file dangles just where a live delete file of that path, under
 /// that manifest's row, applies to no live data file of the snapshot; and one that it names a file that is not live just

@@ -14,7 +14,7 @@ mod subject;
 
 pub use audit::{Audit, Reading};
 pub use icescan_audit_findings::{Basis, Finding, Flaw, LiveFile, TypedColumn};
-pub use laws::{audits_tell_of_deletes, audits_tell_of_summaries};
+pub use laws::{audits_tell_of_deletes, audits_tell_of_files, audits_tell_of_summaries};
 pub use running::{audit_file, run_audit};
 pub use running_json::audit_file_json;
 pub use subject::{Subject, select_subject};

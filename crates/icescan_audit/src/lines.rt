@@ -3,12 +3,13 @@
 ghost use Rattle.std.specs.Prelude.{◌≡◌, ◌++◌, [], OnOk, IfOk};
 ghost use Rattle.std.specs.List.{flat_map};
 ghost use Rattle.icescan_audit.specs.Texts.{audit_text, count_name, file_text, finding_end, finding_text, flaw_end};
-ghost use Rattle.icescan_audit.specs.Texts.{flaw_name, totals_text};
+ghost use Rattle.icescan_audit.specs.Texts.{column_flaw_name, entry_flaw_name, field_flaw_name, flaw_name};
+ghost use Rattle.icescan_audit.specs.Texts.{row_flaw_name, totals_text};
 ghost use Rattle.icescan_print.specs.Written.{Sent, Wrote};
 
 use crate::audit::Audit;
 use contract_words::Items;
-use icescan_audit_findings::{Count, Finding, Flaw};
+use icescan_audit_findings::{ColumnFlaw, Count, EntryFlaw, FieldFlaw, Finding, Flaw, RowFlaw};
 use icescan_print::{Page, Sink, SinkFault, put_named_number};
 use itoa::Integer;
 use shared_value::Shared;
@@ -33,6 +34,48 @@ fn count_name(count: Count) -> &'static [u8]
     }
 }
 
+fn row_flaw_name(flaw: RowFlaw) -> &'static [u8]
+    ensures { result.now ≡ row_flaw_name flaw }
+{
+    match flaw {
+        RowFlaw::OtherSpec => b"other-spec",
+        RowFlaw::OtherContent => b"other-content",
+        RowFlaw::OtherLength => b"other-length",
+        RowFlaw::OtherSummaries => b"other-summaries",
+        RowFlaw::AboveSnapshot => b"above-snapshot",
+    }
+}
+
+fn entry_flaw_name(flaw: EntryFlaw) -> &'static [u8]
+    ensures { result.now ≡ entry_flaw_name flaw }
+{
+    match flaw {
+        EntryFlaw::AboveManifest => b"above-manifest",
+        EntryFlaw::NoEqualityIds => b"no-equality-ids",
+        EntryFlaw::NegativeSize => b"negative-size",
+        EntryFlaw::UnknownFormat => b"unknown-format",
+    }
+}
+
+fn column_flaw_name(flaw: ColumnFlaw) -> &'static [u8]
+    ensures { result.now ≡ column_flaw_name flaw }
+{
+    match flaw {
+        ColumnFlaw::NegativeCounts => b"negative-counts",
+        ColumnFlaw::BoundsOfNulls => b"bounds-of-nulls",
+    }
+}
+
+fn field_flaw_name(flaw: FieldFlaw) -> &'static [u8]
+    ensures { result.now ≡ field_flaw_name flaw }
+{
+    match flaw {
+        FieldFlaw::Unbounded => b"unbounded",
+        FieldFlaw::OtherNulls => b"other-nulls",
+        FieldFlaw::OutsideBounds => b"outside-bounds",
+    }
+}
+
 pub fn flaw_name(flaw: &Flaw) -> &'static [u8]
     ensures { result.now ≡ flaw_name flaw.now }
 {
@@ -48,6 +91,10 @@ pub fn flaw_name(flaw: &Flaw) -> &'static [u8]
         Flaw::NamedNotLive => b"named-not-live",
         Flaw::DanglingPositions => b"dangling-position-deletes",
         Flaw::DanglingEqualities => b"dangling-equality-deletes",
+        Flaw::OfRow(flaw) => row_flaw_name(*flaw),
+        Flaw::OfEntry(flaw) => entry_flaw_name(*flaw),
+        Flaw::OfColumn(flaw, _) => column_flaw_name(*flaw),
+        Flaw::OfField(flaw, _) => field_flaw_name(*flaw),
     }
 }
 
@@ -61,8 +108,11 @@ fn put_flaw_end<S: Sink>(page: &mut Page, sink: &mut S, flaw: &Flaw) -> Result<(
         Flaw::NoColumn(id) => page.put_named_int(sink, b" column ", *id),
         Flaw::BoundsCross(id) => page.put_named_int(sink, b" column ", *id),
         Flaw::ExcessNulls(id) => page.put_named_int(sink, b" column ", *id),
+        Flaw::OfColumn(_, id) => page.put_named_int(sink, b" column ", *id),
+        Flaw::OfField(_, field) => page.put_named_path(sink, b" field ", field.get().as_bytes()),
         Flaw::Miscounted(_) | Flaw::BelowLeast | Flaw::AboveLast | Flaw::LiveTwice => Ok(()),
         Flaw::NamedNotLive | Flaw::DanglingPositions | Flaw::DanglingEqualities => Ok(()),
+        Flaw::OfRow(_) | Flaw::OfEntry(_) => Ok(()),
     }
 }
 

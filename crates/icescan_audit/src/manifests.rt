@@ -2,11 +2,9 @@
 
 ghost use Rattle.std.specs.Prelude.{◌≡◌, ◌≢◌, ◌⊎◌, ◌++◌, List, Ok, Err, IfOk, IfErr, IsErrOf, length};
 ghost use Rattle.std.specs.Option.{option_copied};
-ghost use Rattle.icescan_audit_findings.specs.Findings.{manifest_findings};
 ghost use Rattle.icescan_audit_findings.specs.Repeats.{live_files};
-ghost use Rattle.icescan_audit.specs.Audits.{all_known, of_manifest, spec_for as spec_wanted};
+ghost use Rattle.icescan_audit.specs.Audits.{all_known, bytes_findings, of_manifest, spec_for as spec_wanted};
 ghost use Rattle.ice_manifest_reading.specs.Manifests.{live_of};
-ghost use Rattle.ice_manifest_reading.specs.Tallying.{tallies_of};
 ghost use Rattle.ice_manifest_reading.specs.declared.entry.Live.{Live};
 ghost use Rattle.ice_state.specs.Specs.{spec_of};
 ghost use Rattle.icescan_text.specs.Reads.{MayEnd, as_run};
@@ -15,7 +13,7 @@ use contract_words::Items;
 use ice_manifest_reading::{ManifestFault, Row};
 use ice_meta::Spec;
 use ice_state::{FinishFault, ScanFault};
-use icescan_audit_findings::{Basis, Finding, LiveFile, audit_manifest};
+use icescan_audit_findings::{Basis, Finding, LiveFile, audit_manifest, push_row_findings};
 use icescan_text::RunFault;
 use std::alloc::Global;
 
@@ -75,12 +73,13 @@ pub fn audit_bytes(
 ) -> Result<usize, RunFault>
     ensures found { IfOk result (λ number. (lives : List Live) × (live_of row.now spec.now bytes.now ≡ Ok lives)
         × (number ≡ length lives)
-        × (findings.new ≡ findings.old ++ manifest_findings basis.now row.now spec.now (tallies_of bytes.now) lives)
+        × (findings.new ≡ findings.old ++ bytes_findings basis.now row.now spec.now bytes.now lives)
         × (live.new.items ≡ live.old.items ++ live_files basis.now row.now lives)) }
     ensures refused { IfErr result (MayEnd (as_run (of_manifest row.now.path) (live_of row.now spec.now bytes.now))
         (λ _. ⊥) ⊥) }
     ensures write { IsErrOf result RunFault.Write → ⊥ }
 {
+    push_row_findings(alloc, findings, basis, row, bytes)?;
     match audit_manifest(alloc, basis, row, spec, bytes, findings, live) {
         Ok(number) => Ok(number),
         Err(fault) => Err(refusal(alloc, row, fault)),

@@ -2,10 +2,13 @@
 
 ghost use Rattle.std.specs.Prelude.{◌≡◌, IfErr, IfOk};
 ghost use Rattle.contract_words.specs.Outcome.{Gives};
-ghost use Rattle.icescan_audit.specs.Subjects.{IsOfMetadata, column_ids, subject_in, subject_of, typed_columns};
+ghost use Rattle.icescan_audit.specs.Subjects.{IsOfMetadata, column_ids, number_under, subject_in, subject_of};
+ghost use Rattle.icescan_audit.specs.Subjects.{typed_columns};
+ghost use Rattle.ice_meta.specs.Targets.{resolved};
 
 use contract_words::{Items, Text};
 use ice_meta::{Metadata, Schema, Target};
+use ice_value::SequenceNumber;
 use icescan_audit_findings::{Basis, TypedColumn};
 use icescan_text::RunFault;
 use std::alloc::{AllocError, Global};
@@ -46,6 +49,20 @@ fn typed_columns(alloc: Global, schema: &Schema) -> Result<Items<TypedColumn>, A
     Ok(typed)
 }
 
+/// The sequence number of a snapshot; the table's last where there is no such snapshot.
+fn number_of(metadata: &Metadata, target: &Target) -> SequenceNumber
+    ensures { result ≡ number_under (resolved target.now metadata.now.table) metadata.now.table }
+{
+    let last = metadata.table().last_sequence_number;
+    let Ok(id) = metadata.resolve(target) else {
+        return last;
+    };
+    match metadata.snapshot(id) {
+        Some(snapshot) => snapshot.sequence_number,
+        None => last,
+    }
+}
+
 /// A snapshot of a table, with the schema that counts for it: the current one, or that of the snapshot itself for a tag
 /// and for a snapshot's id. The refusal is `Metadata` where there is no such snapshot; or `Memory`.
 #[tactic(auto, unfolding(crate::specs::Subjects::subject_in))]
@@ -60,6 +77,7 @@ fn subject_in(alloc: Global, metadata: &Metadata, target: &Target) -> Result<Sub
         columns: column_ids(alloc, schema)?,
         typed: typed_columns(alloc, schema)?,
         last: metadata.table().last_sequence_number,
+        snapshot: number_of(metadata, target),
         has_deletes: false,
     };
     Ok(Subject {

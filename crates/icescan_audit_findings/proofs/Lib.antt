@@ -17,4 +17,8 @@ pub mod LastSaid
 pub mod AmongPairs
 pub mod ColumnsTold
 pub mod Miscounts
-pub mod NoTwo
+pub mod Little
+pub mod Keyed
+pub mod Unlike
+pub mod Honest
+pub mod Clean

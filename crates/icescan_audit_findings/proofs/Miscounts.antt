@@ -31,7 +31,7 @@ still_there : {X : Type 0} (b : Bool) (y x : X) (zs : List X) → Contains zs x 
 still_there true y x zs c = contains_more y x zs c
 still_there false y x zs c = c
 
-in_filter : {X : Type 0} (p : X → Bool) (xs : List X) (x : X) → Contains xs x → p x ≡ true → Contains (filter p xs) x
+pub in_filter : {X : Type 0} (p : X → Bool) (xs : List X) (x : X) → Contains xs x → p x ≡ true → Contains (filter p xs) x
 in_filter p [] x c h = absurd (in_none x c)
 in_filter p (y ∷ ys) x c h = elim (first_or_behind y x ys c) as (λ _. Contains (filter p (y ∷ ys)) x) [
   | inl e ↦ (let here : p y ≡ true = ap p e ∙ h in

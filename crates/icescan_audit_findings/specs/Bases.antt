@@ -20,5 +20,6 @@ among rows basis = record {
   columns = basis.columns;
   typed = basis.typed;
   last = basis.last;
+  snapshot = basis.snapshot;
   has_deletes = have_deletes rows;
 }

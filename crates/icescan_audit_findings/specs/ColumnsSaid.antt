@@ -37,7 +37,8 @@ pub record AreMapsOf (file : FileBounds) (maps : RisingMaps) : Type 0 where
   pub lower : bounds_said maps.lower_bounds.pairs.now ≡ file.lower_bounds
   pub upper : bounds_said maps.upper_bounds.pairs.now ≡ file.upper_bounds
 
--- it says no bounds of one of the two kinds, and no counts of one
-pub record HasNoTwo (file : FileBounds) : Type 0 where
+-- it says no bounds of one of the two kinds, and no counts
+pub record SaysLittle (file : FileBounds) : Type 0 where
   pub bounds : (file.lower_bounds ≡ []) ⊎ (file.upper_bounds ≡ [])
-  pub counts : (file.value_counts ≡ []) ⊎ (file.null_counts ≡ [])
+  pub values : file.value_counts ≡ []
+  pub nulls : file.null_counts ≡ []

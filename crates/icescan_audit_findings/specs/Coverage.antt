@@ -1,7 +1,7 @@
 -- What the summaries of a manifest list's row let partition values be: Apache Iceberg table spec, version 2, "Manifest
 -- Lists" (`field_summary`).
-use Rattle.std.specs.Prelude.{ℕ, Bool, true, false, ◌&&◌, ◌==◌, List, [], ◌∷◌, length, Option, None, Some}
-use Rattle.std.specs.Prelude.{if◌then◌else◌}
+use Rattle.std.specs.Prelude.{ℕ, Bool, true, false, ◌&&◌, ◌||◌, ◌==◌, List, [], ◌∷◌, length, Option, None, Some}
+use Rattle.std.specs.Prelude.{if◌then◌else◌, is_some}
 use Rattle.std.specs.Option.{option_and_then}
 use Rattle.ice_value.specs.Cells.{is_at_most}
 use Rattle.ice_value.specs.declared.cell.Cell.{Cell}
@@ -28,14 +28,23 @@ is_below (Some bound) value = is_at_most value bound
 abbrev pub allows : FieldLimits → Cell → Bool
 allows l value = if is_null value then l.null else is_above l.low value && is_below l.high value
 
+-- the value is null, or the summary has both bounds
+abbrev pub is_bounded : FieldLimits → Cell → Bool
+is_bounded l value = is_null value || l.bounded
+
 -- a bound as it is read, by the type of the field's values
 abbrev pub bound_of : PartitionField → Option (List ℕ) → Option Cell
 bound_of f bytes = option_and_then (λ t. limit t bytes) (type_of_values (field_of f))
 
 -- what a field's summary lets its values be
 abbrev pub limits_of : PartitionField → Summary → FieldLimits
-limits_of f s =
-    record { name = f.name; null = s.contains_null; low = bound_of f s.lower; high = bound_of f s.upper }
+limits_of f s = record {
+  name = f.name;
+  null = s.contains_null;
+  low = bound_of f s.lower;
+  high = bound_of f s.upper;
+  bounded = is_some s.lower && is_some s.upper;
+}
 
 -- the same of each field that has a summary
 abbrev pub limits_in : List PartitionField → List Summary → List FieldLimits
@@ -58,3 +67,9 @@ abbrev pub outside : List FieldLimits → List Cell → List (List ℕ)
 outside [] tuple = []
 outside (l ∷ ls) [] = []
 outside (l ∷ ls) (value ∷ tuple) = unless_allowed (allows l value) l.name (outside ls tuple)
+
+-- the names of the fields whose value isn't null beside a summary that lacks a bound
+abbrev pub unbounded : List FieldLimits → List Cell → List (List ℕ)
+unbounded [] tuple = []
+unbounded (l ∷ ls) [] = []
+unbounded (l ∷ ls) (value ∷ tuple) = unless_allowed (is_bounded l value) l.name (unbounded ls tuple)

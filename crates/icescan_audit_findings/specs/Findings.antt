@@ -2,6 +2,7 @@
 use Rattle.std.specs.Prelude.{ℤ, Bool, not, nat_lt, List, [], ◌++◌, map, filter, Some, None}
 use Rattle.std.specs.List.{flat_map, list_any}
 use Rattle.std.specs.Ordering.{int_eq}
+use Rattle.ice_value.specs.declared.file_bounds.FileBounds.{FileBounds}
 use Rattle.ice_value.specs.declared.file_content.FileContent.{FileContent}
 use Rattle.ice_value.specs.declared.file_content.FileContent.TheVariants.{EqualityDeletes}
 use Rattle.ice_meta.specs.declared.spec.Spec.{Spec}
@@ -12,11 +13,16 @@ use Rattle.ice_manifest_reading.specs.declared.tally.Tallies.{Tallies}
 use Rattle.icescan_audit_findings.specs.declared.basis.Basis.{Basis}
 use Rattle.icescan_audit_findings.specs.declared.finding.Finding.{Finding}
 use Rattle.icescan_audit_findings.specs.declared.finding.Flaw.{Flaw}
+use Rattle.icescan_audit_findings.specs.declared.fields.SourceField.{SourceField}
+use Rattle.icescan_audit_findings.specs.declared.finding.FieldFlaw.TheVariants.{Unbounded}
 use Rattle.icescan_audit_findings.specs.declared.finding.Flaw.TheVariants.{Uncovered, BelowLeast, AboveLast, NoColumn}
+use Rattle.icescan_audit_findings.specs.declared.finding.Flaw.TheVariants.{OfField}
 use Rattle.icescan_audit_findings.specs.declared.limits.FieldLimits.{FieldLimits}
 use Rattle.icescan_audit_findings.specs.ColumnFlaws.{columns_flaws}
 use Rattle.icescan_audit_findings.specs.Counting.{count_flaws}
-use Rattle.icescan_audit_findings.specs.Coverage.{outside, row_limits}
+use Rattle.icescan_audit_findings.specs.Coverage.{outside, row_limits, unbounded}
+use Rattle.icescan_audit_findings.specs.EntryFlaws.{entry_flaws}
+use Rattle.icescan_audit_findings.specs.FieldFlaws.{fields_flaws, sources_of}
 use Rattle.icescan_audit_findings.specs.Flaws.{flaw_where}
 
 abbrev pub has_column : List ℤ → ℤ → Bool
@@ -41,9 +47,16 @@ flaws_by basis row limits x = map Uncovered (outside limits x.file.tuple)
     ++ (flaw_where (nat_lt basis.last x.sequence_number) AboveLast
     ++ missing_columns basis x))
 
--- the same, and then what is wrong with what the manifest says of the file's columns
+-- what is wrong with its values of these fields, beside the summaries and beside what the manifest says of the file's
+-- columns, and then with what it says of itself
+abbrev pub flaws_beside : Row → List FieldLimits → List SourceField → Entry → FileBounds → List Flaw
+flaws_beside row limits fields x bounds = map (OfField Unbounded) (unbounded limits x.file.tuple)
+    ++ (fields_flaws bounds fields x.file.tuple ++ entry_flaws row x)
+
+-- the first of these, then what is wrong with what the manifest says of the file's columns, and then the others
 abbrev pub live_flaws : Basis → Row → List FieldLimits → Live → List Flaw
-live_flaws basis row limits l = flaws_by basis row limits l.entry ++ columns_flaws l.bounds basis.typed
+live_flaws basis row limits l = flaws_by basis row limits l.entry
+    ++ (columns_flaws l.bounds basis.typed ++ flaws_beside row limits (sources_of basis row) l.entry l.bounds)
 
 -- a finding on a live entry of a row's manifest, and one on the manifest
 abbrev pub finding_of : Row → Entry → Flaw → Finding

@@ -8,7 +8,11 @@ pub mod Ids
 pub mod ColumnFlaws
 pub mod ColumnsSaid
 pub mod Counting
+pub mod EntryFlaws
+pub mod FieldFlaws
+pub mod Honesty
 pub mod Findings
 pub mod Repeats
+pub mod RowFlaws
 pub mod Examining
 pub mod Telling

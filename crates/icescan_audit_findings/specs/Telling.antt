@@ -6,6 +6,7 @@ use Rattle.ice_value.specs.Applying.{Applies, DataKey}
 use Rattle.ice_value.specs.declared.file_bounds.FileBounds.{FileBounds}
 use Rattle.ice_value.specs.declared.file_content.FileContent.{FileContent}
 use Rattle.ice_manifest_reading.specs.declared.counts.Counts.{Counts}
+use Rattle.ice_manifest_reading.specs.declared.entry.Entry.{Entry}
 use Rattle.ice_manifest_reading.specs.declared.entry.Live.{Live}
 use Rattle.ice_manifest_reading.specs.declared.tally.Tallies.{Tallies}
 use Rattle.icescan_audit_findings.specs.declared.basis.TypedColumn.{TypedColumn}
@@ -42,8 +43,15 @@ pub record IsSaid (holds : FileBounds → TypedColumn → Bool) (columns : List 
   pub id_is : column.id ≡ id
   pub is_true : holds live.bounds column ≡ true
 
+-- a live entry of a file of this path, of which this is true
+pub record HasEntry (holds : Entry → Bool) (lives : List Live) (path : List ℕ) : Type 0 where
+  pub live : Live
+  pub is_live : Contains lives live
+  pub path_is : live.entry.file.path ≡ path
+  pub is_true : holds live.entry ≡ true
+
 -- Deletes that apply to nothing are no faults of the table; all other findings are.
-abbrev pub is_fault : Flaw → Bool
+unfoldable pub is_fault : Flaw → Bool
 is_fault DanglingPositions = false
 is_fault DanglingEqualities = false
 is_fault _ = true

@@ -1,6 +1,8 @@
 //! What a table's entries are held against.
 
 ghost use Rattle.std.specs.Prelude.{◌≡◌};
+ghost use Rattle.std.specs.Option.{option_copied};
+ghost use Rattle.ice_state.specs.Specs.{spec_of};
 ghost use Rattle.icescan_audit_findings.specs.Bases.{among, has_content_of_deletes, have_deletes};
 
 use contract_words::Items;
@@ -28,6 +30,8 @@ pub struct Basis {
     pub typed: Items<TypedColumn>,
     /// The number of the table's last change.
     pub last: SequenceNumber,
+    /// The number of the snapshot.
+    pub snapshot: SequenceNumber,
     /// Whether a manifest of the list has deletes. Only then the keys of live files are kept.
     pub has_deletes: bool,
 }
@@ -49,6 +53,13 @@ fn have_deletes(rows: &[Row]) -> bool
 }
 
 impl Basis {
+    /// The partition spec of this id.
+    pub fn spec_of(&self, id: i32) -> Option<&Spec>
+        ensures { option_copied result ≡ spec_of self.now.specs id }
+    {
+        self.specs.as_slice().iter().find(|spec| spec.id == id)
+    }
+
     /// The same, among the rows of a manifest list.
     pub fn among(self, rows: &[Row]) -> Basis
         ensures { result ≡ among rows.now self }

@@ -1,15 +1,17 @@
 //! What a manifest says of the columns of a file and what can't be.
 
-ghost use Rattle.std.specs.Prelude.{◌≡◌, ◌++◌, true, IfOk, IfSome, OnOk, Some};
+ghost use Rattle.std.specs.Prelude.{◌≡◌, ◌++◌, ◌&&◌, ◌||◌, true, is_some, IfOk, IfSome, OnOk, Some};
 ghost use Rattle.std.specs.Option.{option_copied};
 ghost use Rattle.icescan_audit_findings.specs.ColumnFlaws.{column_flaws, columns_flaws, cross, is_more, is_past};
-ghost use Rattle.icescan_audit_findings.specs.ColumnsSaid.{AreMapsOf, AreSaidOf, HasNoTwo, IsSaidOf};
+ghost use Rattle.icescan_audit_findings.specs.ColumnFlaws.{count_flaws_of, is_less_than_none};
+ghost use Rattle.ice_project.specs.Files.{same_count};
+ghost use Rattle.icescan_audit_findings.specs.ColumnsSaid.{AreMapsOf, AreSaidOf, IsSaidOf, SaysLittle};
 ghost use Rattle.icescan_audit_findings.specs.Ids.{Rises};
 ghost use Rattle.ice_project.specs.Limits.{limit};
 ghost use Rattle.ice_value.specs.declared.file_bounds.FileBounds.{FileBounds};
 
 use crate::basis::TypedColumn;
-use crate::finding::Flaw;
+use crate::finding::{ColumnFlaw, Flaw};
 use crate::flaws::push_where;
 use crate::ids::{last_said, place_near};
 use crate::pairs::RisingPairs;
@@ -162,6 +164,66 @@ fn has_excess(nulls: Option<i64>, values: Option<i64>) -> bool
     }
 }
 
+/// Whether both numbers are there and the same.
+fn is_same_count(a: Option<i64>, b: Option<i64>) -> bool
+    ensures { result ≡ same_count a b }
+{
+    match (a, b) {
+        (Some(a), Some(b)) => a == b,
+        _ => false,
+    }
+}
+
+/// Whether the number is there and below 0.
+fn is_less_than_none(count: Option<i64>) -> bool
+    ensures { result ≡ is_less_than_none count }
+{
+    match count {
+        Some(count) => count < 0,
+        None => false,
+    }
+}
+
+/// Whether the column has fewer than no values or than no nulls.
+fn has_negative_counts(said: &ColumnSaid<'_>) -> bool
+    ensures { result ≡ (is_less_than_none said.now.value_count || is_less_than_none said.now.null_count) }
+{
+    is_less_than_none(said.value_count) || is_less_than_none(said.null_count)
+}
+
+/// Whether all values of the column are null, and yet there is a bound.
+fn has_bounds_of_nulls(said: &ColumnSaid<'_>) -> bool
+    ensures { result ≡ (same_count said.now.value_count said.now.null_count
+        && (is_some (option_copied said.now.lower_bound) || is_some (option_copied said.now.upper_bound))) }
+{
+    is_same_count(said.value_count, said.null_count)
+        && (said.lower_bound.is_some() || said.upper_bound.is_some())
+}
+
+/// Puts what is wrong with the counts of a column last, that are below 0 or are those of nulls alone beside a bound.
+fn push_count_flaws(
+    flaws: &mut Vec<Flaw>,
+    column: &TypedColumn,
+    said: &ColumnSaid<'_>,
+) -> Result<(), AllocError>
+    ensures { (file : FileBounds) → IsSaidOf file column.now.id said.now → OnOk result (flaws.new.items
+        ≡ flaws.old.items ++ count_flaws_of file column.now.id) }
+{
+    let negative = has_negative_counts(said);
+    let of_nulls = has_bounds_of_nulls(said);
+    push_where(
+        flaws,
+        negative,
+        Flaw::OfColumn(ColumnFlaw::NegativeCounts, column.id),
+    )?;
+    push_where(
+        flaws,
+        of_nulls,
+        Flaw::OfColumn(ColumnFlaw::BoundsOfNulls, column.id),
+    )?;
+    Ok(())
+}
+
 /// Puts what is wrong with what is said of a column last.
 fn push_column_flaws(
     alloc: Global,
@@ -179,12 +241,9 @@ fn push_column_flaws(
         said.upper_bound,
     )?;
     let excess = has_excess(said.null_count, said.value_count);
-    if !cross && !excess {
-        return Ok(());
-    }
     push_where(flaws, cross, Flaw::BoundsCross(column.id))?;
     push_where(flaws, excess, Flaw::ExcessNulls(column.id))?;
-    Ok(())
+    push_count_flaws(flaws, column, said)
 }
 
 /// Puts what is wrong with what the maps say of the schema's columns last, column by column.
@@ -224,15 +283,14 @@ fn push_flaws_listed(
     Ok(())
 }
 
-/// Whether what is said of no column can be wrong: that takes a lower bound and an upper one, or a number of nulls and
-/// one of values.
-fn has_no_two(bounds: &FileBounds<'_, '_>) -> bool
-    ensures { result ≡ true → HasNoTwo bounds.now }
+/// Whether what is said of no column can be wrong: that takes a lower bound and an upper one, or a count.
+fn says_little(bounds: &FileBounds<'_, '_>) -> bool
+    ensures { result ≡ true → SaysLittle bounds.now }
 {
     let lacks_bounds = bounds.lower_bounds.pairs().is_empty()
         || bounds.upper_bounds.pairs().is_empty();
     let lacks_counts = bounds.value_counts.pairs().is_empty()
-        || bounds.null_counts.pairs().is_empty();
+        && bounds.null_counts.pairs().is_empty();
     lacks_bounds && lacks_counts
 }
 
@@ -248,7 +306,7 @@ pub fn push_columns_flaws(
     requires { Rises ids.now }
     ensures { OnOk result (flaws.new.items ≡ flaws.old.items ++ columns_flaws bounds.now columns.now) }
 {
-    if has_no_two(bounds) {
+    if says_little(bounds) {
         return Ok(());
     }
     match rising_maps(bounds) {

@@ -4,6 +4,7 @@ ghost use Rattle.std.specs.Prelude.{◌≡◌, IfOk};
 ghost use Rattle.contract_words.specs.Outcome.{Gives};
 ghost use Rattle.icescan_audit_findings.specs.Coverage.{row_limits};
 ghost use Rattle.icescan_audit_findings.specs.Examining.{examined};
+ghost use Rattle.icescan_audit_findings.specs.FieldFlaws.{sources_of};
 ghost use Rattle.icescan_audit_findings.specs.Ids.{Rises};
 ghost use Rattle.ice_manifest_reading.specs.Manifests.{live_of};
 ghost use Rattle.ice_manifest_reading.specs.Tallying.{tallies_of};
@@ -11,9 +12,10 @@ ghost use Rattle.ice_manifest_reading.specs.Telling.{told_of};
 
 use crate::basis::Basis;
 use crate::columns::push_columns_flaws;
+use crate::fields::{SourceField, sources_of};
 use crate::file_key::{KeptKey, key_of};
 use crate::finding::Flaw;
-use crate::flaws::flaws_of;
+use crate::flaws::{flaws_of, push_further_flaws};
 use crate::ids::rising_ids;
 use crate::limits::{FieldLimits, row_limits};
 use contract_words::Items;
@@ -39,7 +41,9 @@ struct Against<'a> {
     row: &'a Row,
     limits: &'a [FieldLimits],
     ids: &'a [i32],
+    fields: &'a [SourceField],
     ghost rises: { Rises ids.now },
+    ghost sources: { fields.now ≡ sources_of basis.now row.now },
 }
 
 impl<'a> Tell for Against<'a> {
@@ -52,6 +56,15 @@ impl<'a> Tell for Against<'a> {
         let mut flaws = flaws_of(alloc, self.basis, self.row, self.limits, &entry)?;
         let columns = self.basis.typed.as_slice();
         push_columns_flaws(alloc, &mut flaws, columns, self.ids, &live.bounds)?;
+        push_further_flaws(
+            alloc,
+            &mut flaws,
+            self.row,
+            self.limits,
+            self.fields,
+            &entry,
+            &live.bounds,
+        )?;
         Ok(Examined {
             path: Items::from_vec(entry.path.to_vec(alloc)?),
             flaws: Items::from_vec(flaws),
@@ -76,11 +89,13 @@ pub fn examine(
 {
     let limits = row_limits(alloc, spec, row)?;
     let ids = rising_ids(alloc, basis.typed.as_slice())?;
+    let fields = sources_of(alloc, basis, row)?;
     let against = Against {
         basis,
         row,
         limits: limits.as_slice(),
         ids: ids.as_slice(),
+        fields: fields.as_slice(),
     };
     read_tallied(alloc, row, spec, &against, bytes)
 }

@@ -17,6 +17,55 @@ pub enum Count {
     DeletedRows,
 }
 
+/// What is wrong with what a manifest list's row says of a manifest.
+#[derive(Clone, Copy, Debug, PartialEq, Eq)]
+pub enum RowFlaw {
+    /// It names another partition spec than the manifest's own metadata.
+    OtherSpec,
+    /// It says another content than the manifest's own metadata.
+    OtherContent,
+    /// It says another length than the manifest has.
+    OtherLength,
+    /// It has summaries of another number of fields than its spec has.
+    OtherSummaries,
+    /// Its sequence number is above its snapshot's.
+    AboveSnapshot,
+}
+
+/// What is wrong with what a live entry says of itself and of its file.
+#[derive(Clone, Copy, Debug, PartialEq, Eq)]
+pub enum EntryFlaw {
+    /// Its sequence number is above that of the manifest's row.
+    AboveManifest,
+    /// It is an equality delete file, and names no column to delete by.
+    NoEqualityIds,
+    /// The file has fewer than no rows, or than no bytes.
+    NegativeSize,
+    /// The file is of no format that is known.
+    UnknownFormat,
+}
+
+/// What is wrong with what a manifest says of a column of a file.
+#[derive(Clone, Copy, Debug, PartialEq, Eq)]
+pub enum ColumnFlaw {
+    /// It has fewer than no values, or than no nulls.
+    NegativeCounts,
+    /// All its values are null by their counts, and yet there is a bound.
+    BoundsOfNulls,
+}
+
+/// What is wrong with a file's value of a partition field.
+#[derive(Clone, Copy, Debug, PartialEq, Eq)]
+pub enum FieldFlaw {
+    /// It isn't null, and the summary of the manifest's row lacks a bound, as one of nulls alone does.
+    Unbounded,
+    /// It is null, and the field's column has other values by its counts or bounds; or it isn't null, and the column has
+    /// nulls by their count.
+    OtherNulls,
+    /// No value between the bounds of the field's column has it.
+    OutsideBounds,
+}
+
 /// What is wrong with a manifest, or with a live entry of it.
 #[derive(Debug, Drop)]
 pub enum Flaw {
@@ -42,6 +91,14 @@ pub enum Flaw {
     DanglingPositions,
     /// The equality delete file applies to no live data file.
     DanglingEqualities,
+    /// The manifest list's row of the manifest is at fault.
+    OfRow(RowFlaw),
+    /// The entry is at fault.
+    OfEntry(EntryFlaw),
+    /// What the manifest says of the file's column of this id is at fault.
+    OfColumn(ColumnFlaw, i32),
+    /// The file's value of the partition field of this name is at fault.
+    OfField(FieldFlaw, Shared<Text>),
 }
 
 /// A flaw, and where it was found.
@@ -58,6 +115,7 @@ pub struct Finding {
 impl Flaw {
     /// Whether it is a fault of the table. Delete files that apply to nothing are none: they cost time, and no answer is
     /// wrong for them.
+    #[tactic(auto, unfolding(crate::specs::Telling::is_fault))]
     pub fn is_fault(&self) -> bool
         ensures { result ≡ is_fault self.now }
     {
@@ -69,8 +127,11 @@ impl Flaw {
 pub fn count_faults(findings: &[Finding]) -> usize
     ensures { result ≡ length (faults findings.now) }
 {
-    findings
-        .iter()
-        .filter(|finding| finding.flaw.is_fault())
-        .count()
+    let mut count = 0;
+    'findings: for finding in findings {
+        if finding.flaw.is_fault() {
+            count += 1;
+        }
+    }
+    count
 }

@@ -2,13 +2,18 @@
 
 ghost use Rattle.std.specs.Prelude.{◌≡◌, ◌↔◌, ℕ, ℤ, List, [], Some, Ok, length, true};
 ghost use Rattle.std.specs.List.{AllByRecursion, Contains, IsDistinct};
-ghost use Rattle.icescan_audit_findings.specs.ColumnFlaws.{bounds_cross, has_excess_nulls};
+ghost use Rattle.icescan_audit_findings.specs.ColumnFlaws.{bounds_cross, has_bounds_of_nulls, has_excess_nulls};
+ghost use Rattle.icescan_audit_findings.specs.ColumnFlaws.{has_negative_counts};
 ghost use Rattle.icescan_audit_findings.specs.Coverage.{allows, limits_of, outside, row_limits};
 ghost use Rattle.icescan_audit_findings.specs.Dangling.{delete_findings};
 ghost use Rattle.icescan_audit_findings.specs.Examining.{finding_at};
 ghost use Rattle.icescan_audit_findings.specs.Findings.{entry_findings, manifest_finding, manifest_findings};
 ghost use Rattle.icescan_audit_findings.specs.Repeats.{has_path_of, repeats};
-ghost use Rattle.icescan_audit_findings.specs.Telling.{Dangles, IsMiscounted, IsSaid, NamesNone, uncovered};
+ghost use Rattle.icescan_audit_findings.specs.EntryFlaws.{has_flaw};
+ghost use Rattle.icescan_audit_findings.specs.Honesty.{IsHonestByMetadata};
+ghost use Rattle.icescan_audit_findings.specs.RowFlaws.{has_row_flaw, row_findings};
+ghost use Rattle.icescan_audit_findings.specs.Telling.{Dangles, HasEntry, IsMiscounted, IsSaid, NamesNone, faults};
+ghost use Rattle.icescan_audit_findings.specs.Telling.{uncovered};
 ghost use Rattle.icescan_audit_findings.specs.declared.basis.Basis.{Basis};
 ghost use Rattle.icescan_audit_findings.specs.declared.finding.Count.{Count};
 ghost use Rattle.icescan_audit_findings.specs.declared.repeats.LiveFile.{LiveFile};
@@ -26,7 +31,7 @@ ghost use Rattle.ice_value.specs.declared.cell.Cell.{Cell};
 ghost use Rattle.ice_value.specs.declared.file_bounds.Summary.{Summary};
 ghost use Rattle.ice_value.specs.declared.file_content.FileContent.TheVariants.{EqualityDeletes, PositionDeletes};
 
-use crate::finding::Flaw;
+use crate::finding::{ColumnFlaw, EntryFlaw, Flaw, RowFlaw};
 use ice_manifest_reading::contents_fit;
 
 /// A field's limits allow just the values that its summary covers. So of an entry, which has a value for each field of
@@ -60,7 +65,9 @@ pub fn repeats_tell_paths_apart()
 {}
 
 /// There is a finding that the bounds of a column cross just where a live entry of this file has, of a column of the
-/// schema, a lower bound above its upper one; and one of excess nulls just where it has more nulls than values.
+/// schema, a lower bound above its upper one; one of excess nulls just where it has more nulls than values; one of
+/// negative counts just where one of these is below 0; and one of bounds of nulls just where all values are null by their
+/// counts and a bound is there.
 pub fn findings_tell_columns()
     ensures bounds { (basis : Basis) (row : Row) (spec : Spec) (tallies : Tallies) (lives : List Live) (path : List ℕ) (column : ℤ) →
         Contains (manifest_findings basis row spec tallies lives) (finding_at row path (Flaw.BoundsCross column))
@@ -68,6 +75,35 @@ pub fn findings_tell_columns()
     ensures nulls { (basis : Basis) (row : Row) (spec : Spec) (tallies : Tallies) (lives : List Live) (path : List ℕ) (column : ℤ) →
         Contains (manifest_findings basis row spec tallies lives) (finding_at row path (Flaw.ExcessNulls column))
         ↔ IsSaid (λ file c. has_excess_nulls file c.id) basis.typed lives path column }
+    ensures negative { (basis : Basis) (row : Row) (spec : Spec) (tallies : Tallies) (lives : List Live) (path : List ℕ) (column : ℤ) →
+        Contains (manifest_findings basis row spec tallies lives)
+        (finding_at row path (Flaw.OfColumn ColumnFlaw.NegativeCounts column))
+        ↔ IsSaid (λ file c. has_negative_counts file c.id) basis.typed lives path column }
+    ensures of_nulls { (basis : Basis) (row : Row) (spec : Spec) (tallies : Tallies) (lives : List Live) (path : List ℕ) (column : ℤ) →
+        Contains (manifest_findings basis row spec tallies lives)
+        (finding_at row path (Flaw.OfColumn ColumnFlaw.BoundsOfNulls column))
+        ↔ IsSaid (λ file c. has_bounds_of_nulls file c.id) basis.typed lives path column }
+{}
+
+/// There is a finding on what a live entry says of itself just where one of a file of that path has the flaw; and one on a
+/// row just where the row, whose manifest is this file, has it.
+pub fn findings_tell_entries()
+    ensures entries { (basis : Basis) (row : Row) (spec : Spec) (tallies : Tallies) (lives : List Live) (path : List ℕ)
+        (flaw : EntryFlaw) →
+        Contains (manifest_findings basis row spec tallies lives) (finding_at row path (Flaw.OfEntry flaw))
+        ↔ HasEntry (λ x. has_flaw flaw row x) lives path }
+    ensures rows { (basis : Basis) (row : Row) (file : List ℕ) (flaw : RowFlaw) →
+        Contains (row_findings basis row file) (manifest_finding row (Flaw.OfRow flaw))
+        ↔ (has_row_flaw flaw basis row file ≡ true) }
+{}
+
+/// Where none of the findings on a manifest is a fault, its live files are honest as far as metadata can tell: of each
+/// column of the schema there are values of which all is true that the manifest says of the column, and where the column
+/// is that of an identity field, they are the field's value.
+pub fn faultless_files_are_honest()
+    ensures { (basis : Basis) (row : Row) (spec : Spec) (tallies : Tallies) (lives : List Live) →
+        faults (manifest_findings basis row spec tallies lives) ≡ [] →
+        AllByRecursion (λ (l : Live). IsHonestByMetadata basis row l) lives }
 {}
 
 /// There is a finding on a count of the manifest list just where the list has it and there are not as many.

@@ -8,22 +8,27 @@ mod counts;
 mod deletes;
 mod entries;
 mod examined;
+mod fields;
 mod file_key;
 mod finding;
 mod flaws;
+mod header;
 mod ids;
 mod laws;
 mod limits;
 mod pairs;
 mod repeats;
+mod rows;
 
 pub use basis::{Basis, TypedColumn};
 pub use deletes::push_delete_findings;
 pub use entries::audit_manifest;
 pub use file_key::{FileKey, KeptKey};
-pub use finding::{Count, Finding, Flaw, count_faults};
+pub use finding::{ColumnFlaw, Count, EntryFlaw, FieldFlaw, Finding, Flaw, RowFlaw, count_faults};
 pub use laws::{
-    findings_tell_applying, findings_tell_columns, findings_tell_counts, findings_tell_coverage,
-    limits_tell_coverage, repeats_tell_paths_apart,
+    faultless_files_are_honest, findings_tell_applying, findings_tell_columns,
+    findings_tell_counts, findings_tell_coverage, findings_tell_entries, limits_tell_coverage,
+    repeats_tell_paths_apart,
 };
 pub use repeats::{LiveFile, push_repeats};
+pub use rows::push_row_findings;

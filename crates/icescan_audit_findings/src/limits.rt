@@ -6,7 +6,8 @@ ghost use Rattle.ice_project.specs.Fields.{field_of};
 ghost use Rattle.ice_project.specs.Limits.{limit};
 ghost use Rattle.ice_project.specs.Summaries.{type_of_values};
 ghost use Rattle.ice_value.specs.Cells.{is_at_most};
-ghost use Rattle.icescan_audit_findings.specs.Coverage.{allows, is_above, is_below, limits_in, limits_of, row_limits};
+ghost use Rattle.icescan_audit_findings.specs.Coverage.{allows, is_above, is_below, is_bounded, limits_in, limits_of};
+ghost use Rattle.icescan_audit_findings.specs.Coverage.{row_limits};
 
 use contract_words::Text;
 use ice_manifest_reading::Row;
@@ -28,6 +29,8 @@ pub struct FieldLimits {
     pub low: Option<Cell>,
     /// No other value is above it.
     pub high: Option<Cell>,
+    /// Whether the summary has both bounds, as one has of values that aren't all null.
+    pub bounded: bool,
 }
 
 impl FieldLimits {
@@ -40,6 +43,13 @@ impl FieldLimits {
             _ => is_above(&self.low, value) && is_below(&self.high, value),
         }
     }
+
+    /// Whether the value is null, or the summary has both bounds.
+    pub fn is_bounded(&self, value: &Cell) -> bool
+        ensures { result ≡ is_bounded self.now value.now }
+    {
+        matches!(value, Cell::Null) || self.bounded
+    }
 }
 
 fn is_at_most(value: &Cell, other: &Cell) -> bool
@@ -49,7 +59,7 @@ fn is_at_most(value: &Cell, other: &Cell) -> bool
 }
 
 /// Whether a value is of the kind of a lower bound and not below it, where there is one.
-fn is_above(low: &Option<Cell>, value: &Cell) -> bool
+pub(crate) fn is_above(low: &Option<Cell>, value: &Cell) -> bool
     ensures { result ≡ is_above low.now value.now }
 {
     match low {
@@ -59,7 +69,7 @@ fn is_above(low: &Option<Cell>, value: &Cell) -> bool
 }
 
 /// Whether a value is of the kind of an upper bound and not above it, where there is one.
-fn is_below(high: &Option<Cell>, value: &Cell) -> bool
+pub(crate) fn is_below(high: &Option<Cell>, value: &Cell) -> bool
     ensures { result ≡ is_below high.now value.now }
 {
     match high {
@@ -107,6 +117,7 @@ fn limits_of(
         null: summary.contains_null(),
         low: bound_of(alloc, &values, summary.lower())?,
         high: bound_of(alloc, &values, summary.upper())?,
+        bounded: summary.lower().is_some() && summary.upper().is_some(),
     })
 }
 

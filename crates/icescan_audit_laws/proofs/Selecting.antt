@@ -32,42 +32,43 @@ IsSame subject selection = (selection.list ≡ subject.list) × (selection.specs
 abbrev given : {A : Type 0} → A → Result A RunFault
 given x = Ok x
 
-abbrev subject_from : Table → Result (List ℕ) RunFault → Result Schema RunFault → Result Subject RunFault
-subject_from table list schema =
-    list >>= λ l. schema >>= λ s. Ok (record { list = l; basis = basis_of s table })
+abbrev subject_from : Table → Target → Result (List ℕ) RunFault → Result Schema RunFault → Result Subject RunFault
+subject_from table target list schema =
+    list >>= λ l. schema >>= λ s. Ok (record { list = l; basis = basis_of s table target })
 
 abbrev selection_from : Table → Result (List ℕ) RunFault → Result Schema RunFault
     → (Schema → Result (List (Part BoundPredicate)) RunFault) → Result Selection RunFault
 selection_from table list schema bound = list >>= λ l. schema >>= λ s. bound s >>= λ f.
     Ok (record { list = l; specs = bound_specs s table; filter = record { parts = f } })
 
-bound_same : (table : Table) (l : List ℕ) (s : Schema) (f : Result (List (Part BoundPredicate)) RunFault)
+bound_same : (table : Table) (target : Target) (l : List ℕ) (s : Schema) (f : Result (List (Part BoundPredicate)) RunFault)
     (selection : Selection) (subject : Subject)
     → (f >>= λ parts. Ok (record { list = l; specs = bound_specs s table; filter = record { parts = parts } }))
     ≡ Ok selection
-    → given (record { list = l; basis = basis_of s table }) ≡ Ok subject → IsSame subject selection
-bound_same table l s (Err e) selection subject h k = absurd cc
-bound_same table l s (Ok parts) selection subject h k =
+    → given (record { list = l; basis = basis_of s table target }) ≡ Ok subject → IsSame subject selection
+bound_same table target l s (Err e) selection subject h k = absurd cc
+bound_same table target l s (Ok parts) selection subject h k =
     let here : record { list = l; specs = bound_specs s table; filter = record { parts = parts } } ≡ selection = cc in
-    let there : record { list = l; basis = basis_of s table } ≡ subject = cc in (
+    let there : record { list = l; basis = basis_of s table target } ≡ subject = cc in (
       sym (ap (λ (x : Selection). x.list) here) ∙ ap (λ (x : Subject). x.list) there,
       sym (ap (λ (x : Selection). x.specs) here) ∙ ap (λ (x : Subject). x.basis.specs) there,
     )
 
-same_from : (table : Table) (list : Result (List ℕ) RunFault) (schema : Result Schema RunFault)
+same_from : (table : Table) (target : Target) (list : Result (List ℕ) RunFault) (schema : Result Schema RunFault)
     (bound : Schema → Result (List (Part BoundPredicate)) RunFault) (selection : Selection) (subject : Subject)
-    → selection_from table list schema bound ≡ Ok selection → subject_from table list schema ≡ Ok subject
+    → selection_from table list schema bound ≡ Ok selection → subject_from table target list schema ≡ Ok subject
     → IsSame subject selection
-same_from table (Err e) schema bound selection subject h k = absurd cc
-same_from table (Ok l) (Err e) bound selection subject h k = absurd cc
-same_from table (Ok l) (Ok s) bound selection subject h k = bound_same table l s (bound s) selection subject h k
+same_from table target (Err e) schema bound selection subject h k = absurd cc
+same_from table target (Ok l) (Err e) bound selection subject h k = absurd cc
+same_from table target (Ok l) (Ok s) bound selection subject h k =
+    bound_same table target l s (bound s) selection subject h k
 
 same_parts : (table : Table) (target : Target) (parts : Option (List (Part Predicate))) (selection : Selection)
     (subject : Subject) → selected_by table target parts ≡ Ok selection → subject_in table target ≡ Ok subject
     → IsSame subject selection
 unfolding selected_by subject_in
 same_parts table target parts selection subject h k =
-    same_from table (as_run of_meta (list_of target table)) (as_run of_meta (schema_of target table))
+    same_from table target (as_run of_meta (list_of target table)) (as_run of_meta (schema_of target table))
     (λ s. as_run of_filter (bound_in s parts)) selection subject h k
 
 by_parts : (table : Table) (target : Target) (parts : Result (Option (List (Part Predicate))) RunFault)
@@ -96,20 +97,20 @@ same_selection metadata request selection subject h k =
 abbrev unfiltered : Subject → Selection
 unfiltered subject = record { list = subject.list; specs = subject.basis.specs; filter = record { parts = [] } }
 
-unfiltered_from : (table : Table) (list : Result (List ℕ) RunFault) (schema : Result Schema RunFault)
+unfiltered_from : (table : Table) (target : Target) (list : Result (List ℕ) RunFault) (schema : Result Schema RunFault)
     (subject : Subject)
-    → subject_from table list schema ≡ Ok subject
+    → subject_from table target list schema ≡ Ok subject
     → selection_from table list schema (λ s. Ok []) ≡ Ok (unfiltered subject)
-unfiltered_from table (Err e) schema subject h = absurd cc
-unfiltered_from table (Ok l) (Err e) subject h = absurd cc
-unfiltered_from table (Ok l) (Ok s) subject h =
-    let there : record { list = l; basis = basis_of s table } ≡ subject = cc in
+unfiltered_from table target (Err e) schema subject h = absurd cc
+unfiltered_from table target (Ok l) (Err e) subject h = absurd cc
+unfiltered_from table target (Ok l) (Ok s) subject h =
+    let there : record { list = l; basis = basis_of s table target } ≡ subject = cc in
     ap (λ (x : Subject). given (unfiltered x)) there
 
 unfiltered_by : (table : Table) (target : Target) (subject : Subject) → subject_in table target ≡ Ok subject
     → selected_by table target None ≡ Ok (unfiltered subject)
 unfolding selected_by subject_in
-unfiltered_by table target subject h = unfiltered_from table (as_run of_meta (list_of target table))
+unfiltered_by table target subject h = unfiltered_from table target (as_run of_meta (list_of target table))
     (as_run of_meta (schema_of target table)) subject h
 
 unfiltered_in : (described : Result Described RunFault) (target : Target) (subject : Subject)

@@ -6,6 +6,7 @@ ghost use Rattle.icescan_audit_findings.specs.Repeats.{live_files};
 ghost use Rattle.ice_manifest_reading.specs.Manifests.{live_of};
 ghost use Rattle.ice_manifest_reading.specs.declared.entry.Live.{Live};
 ghost use Rattle.icescan_audit_findings.specs.Dangling.{delete_findings};
+ghost use Rattle.icescan_audit_findings.specs.RowFlaws.{row_findings};
 ghost use Rattle.icescan_audit.specs.AnyFiles.{WritesAnAudit};
 
 use contract_words::Items;
@@ -41,6 +42,20 @@ pub fn live_files(
         &mut files,
     )?;
     Ok(files)
+}
+
+/// The findings on what a row says of its manifest, which has these bytes.
+pub fn row_findings(
+    alloc: Global,
+    basis: &Basis,
+    row: &Row,
+    bytes: &[u8],
+) -> Result<Items<Finding>, AllocError>
+    ensures { IfOk result (λ findings. findings ≡ row_findings basis.now row.now bytes.now) }
+{
+    let mut findings = Items::new(alloc);
+    icescan_audit_findings::push_row_findings(alloc, &mut findings, basis, row, bytes)?;
+    Ok(findings)
 }
 
 /// The findings on delete files that name no live data file, and on those that apply to none.

@@ -11,7 +11,7 @@ ghost use Rattle.ice_state.specs.Contents.{World};
 
 mod calls;
 
-pub use calls::{audit_file, delete_findings, live_files};
+pub use calls::{audit_file, delete_findings, live_files, row_findings};
 use icescan_audit::audits_tell_of_summaries;
 use icescan_requests::plans_of_true_summaries;
 
