@@ -2,12 +2,17 @@
 //! implementation cheaply.
 
 ghost use Rattle.std.specs.Prelude.{◌≡◌, ℕ, List, Some, IfOk, OnOk};
+ghost use Rattle.icescan_changes.specs.Changes.{file_changes};
+ghost use Rattle.icescan_changes.specs.Files.{same_file};
 ghost use Rattle.icescan_commits.specs.Commits.{Commitment, Made};
 ghost use Rattle.icescan_commits.specs.GivenCommits.{IsCommitmentOfGiven};
 ghost use Rattle.icescan_requests.specs.Shows.{WroteText, show_of};
 ghost use Rattle.icescan_explain.specs.Fates.{file_verdict};
 
+use contract_words::Items;
 use ice_manifest_reading::Live;
+use ice_state::{PlanFile, PlanFiles};
+use icescan_changes::FileChange;
 use icescan_explain::{Fate, FilterTests, SpecTests};
 use icescan_files::{Below, Folders, Store};
 use icescan_print::Sink;
@@ -58,4 +63,22 @@ pub fn file_fate(
     ensures { IfOk result (λ fate. fate ≡ (file_verdict tests.now of_spec.now live.now).fate) }
 {
     Ok(icescan_explain::file_verdict(alloc, tests, of_spec, live)?.fate)
+}
+
+/// Whether the plans that two files are of tell the same of both.
+pub fn is_unchanged(before: &PlanFile<'_>, after: &PlanFile<'_>) -> bool
+    ensures { result ≡ same_file before.now after.now }
+{
+    icescan_changes::is_same_file(before, after)
+}
+
+/// What became of the delete files of a data file.
+pub fn delete_changes<'a>(
+    alloc: Global,
+    earlier: &PlanFiles<'a>,
+    later: &PlanFiles<'a>,
+) -> Result<Items<FileChange<'a>>, AllocError>
+    ensures { IfOk result (λ changes. changes ≡ file_changes earlier.now later.now) }
+{
+    icescan_changes::file_changes(alloc, earlier, later)
 }

@@ -1,16 +1,16 @@
 -- The two plans of which the changes are told, what is told of them, and why either may end the run.
-use Rattle.std.proofs.Common.{◌≡◌, ◌⊎◌, inl, inr, ℕ, ◌<◌, ◌≤◌, List, [], ◌∷◌, ◌++◌, refl, sym, subst, ◌∙◌}
-use Rattle.std.specs.Prelude.{Ok}
+use Rattle.std.proofs.Common.{◌≡◌, ◌≢◌, ◌⊎◌, inl, inr, ℕ, ◌<◌, ◌≤◌, List, [], ◌∷◌, ◌++◌, refl, sym, subst, ◌∙◌}
+use Rattle.std.specs.Prelude.{Result, Ok, Err}
 use Rattle.contract_words.specs.Outcome.{◌>>=◌}
 use Rattle.ice_desk.specs.Wanted.{paths_of}
 use Rattle.ice_desk.specs.Worlds.{EndsAt}
 use Rattle.ice_manifest_reading.specs.declared.row.Row.{Row}
-use Rattle.ice_meta.specs.declared.metadata.Target.{Target}
 use Rattle.ice_state.specs.Contents.{HasEach, World}
 use Rattle.ice_state.specs.Lines.{OwnedLine}
 use Rattle.icescan_changes.specs.Answers.{both_reads, changes_at, changes_in, changes_reads_at, changes_reads_behind}
-use Rattle.icescan_changes.specs.Answers.{earlier_of}
-use Rattle.icescan_changes.specs.Texts.{changes_text}
+use Rattle.icescan_changes.specs.Answers.{changes_told}
+use Rattle.icescan_changes.specs.Lineage.{IsOfLineage, lineage_of}
+use Rattle.icescan_forms.specs.declared.format.Format.{Format}
 use Rattle.icescan_requests.specs.ListPlans.{wanted_of}
 use Rattle.icescan_requests.specs.Plans.{answer_by, manifests, manifests_of, over_wanted_rows, reads, reads_of, rows_plan}
 use Rattle.icescan_requests.specs.Plans.{scan_in, wanted_answer}
@@ -20,6 +20,7 @@ use Rattle.icescan_requests.proofs.Plans.{list_there}
 use Rattle.icescan_text.specs.Reads.{MayEnd, all_present, file_in, rows_at}
 use Rattle.icescan_text.specs.declared.fault.RunFault.{RunFault}
 use Rattle.icescan_text.specs.declared.fault.RunFault.TheVariants as run
+use Rattle.icescan_text.specs.declared.request.ChangesRequest.{ChangesRequest}
 use Rattle.icescan_text.specs.declared.request.Request.{Request}
 use Rattle.icescan_text.proofs.Steps.{fails_later, first_ends, has_each, more_reads, only_first, step, then_ends}
 use Rattle.icescan_text.proofs.Enough.{enough, not_enough}
@@ -63,76 +64,114 @@ module _ (world : World) (f : List ℕ → Type 0) (rest : List (List ℕ)) (p :
       (sym rows.1) later in
       subst (λ found. EndsAt world f (reads_of world found ++ rest) p) (sym asked.1) of_rows
 
+-- ---- a lineage
+
+pub lineage_ends : {A : Type 0} (read : Result A RunFault) (w : Type 0) (e : RunFault) → IsOfLineage e
+    → (e ≢ run.Memory → read ≡ Err e) → MayEnd read (λ _. ⊥) w e
+lineage_ends read w (run.Metadata f) is h = h (λ m. cc)
+lineage_ends read w (run.Lineage f) is h = h (λ m. cc)
+lineage_ends read w run.Memory is h = tt
+lineage_ends read w (run.Words t) is h = absurd is
+lineage_ends read w run.Input is h = absurd is
+lineage_ends read w (run.Bundle n) is h = absurd is
+lineage_ends read w (run.Absent path) is h = absurd is
+lineage_ends read w (run.Device path) is h = absurd is
+lineage_ends read w (run.List f) is h = absurd is
+lineage_ends read w (run.Scan f) is h = absurd is
+lineage_ends read w (run.Finish f) is h = absurd is
+lineage_ends read w (run.Filter f) is h = absurd is
+lineage_ends read w (run.Drill f) is h = absurd is
+lineage_ends read w (run.Locate f) is h = absurd is
+lineage_ends read w (run.Change f) is h = absurd is
+lineage_ends read w (run.Prepare f) is h = absurd is
+lineage_ends read w (run.Conflict path) is h = absurd is
+lineage_ends read w run.Workers is h = absurd is
+lineage_ends read w run.Write is h = absurd is
+
 -- ---- two plans
 
-module _ (f : List ℕ → Type 0) (world : World) (metadata : List ℕ) (from : Target) (request : Request) where
+module _ (f : List ℕ → Type 0) (form : Format) (world : World) (metadata : List ℕ) (request : ChangesRequest) where
   abbrev stops : List ℕ → Type 0
-  stops = EndsAt world f (both_reads world metadata from request)
+  stops = EndsAt world f (both_reads world metadata request)
 
-  pub no_earlier : (e : RunFault)
-      → MayEnd (wanted_answer world metadata (earlier_of from request))
-      (EndsAt world f (reads world metadata (earlier_of from request))) ⊥ e
-      → MayEnd (changes_in world metadata from request) stops ⊥ e
+  pub no_lineage : (e : RunFault) → IsOfLineage e → (e ≢ run.Memory → lineage_of metadata request ≡ Err e)
+      → MayEnd (changes_in form world metadata request) stops ⊥ e
   unfolding changes_in
-  no_earlier e h =
-      first_ends stops ⊥ (EndsAt world f (reads world metadata (earlier_of from request)))
-      (wanted_answer world metadata (earlier_of from request)) _ e
-      (λ p m. ends_first world f (reads world metadata (earlier_of from request)) (reads world metadata request) p m) h
+  no_lineage e is h =
+      first_ends stops ⊥ (λ _. ⊥) (lineage_of metadata request) _ e (λ p m. absurd m)
+      (lineage_ends (lineage_of metadata request) ⊥ e is h)
 
-  module _ (earlier : List OwnedLine) (was : wanted_answer world metadata (earlier_of from request) ≡ Ok earlier) where
-    pub no_later : (e : RunFault)
-        → MayEnd (wanted_answer world metadata request) (EndsAt world f (reads world metadata request)) ⊥ e
-        → MayEnd (changes_in world metadata from request) stops ⊥ e
+  module _ (follows : lineage_of metadata request ≡ Ok tt) where
+    behind_lineage : changes_in form world metadata request
+        ≡ (wanted_answer world metadata request.earlier >>= λ earlier.
+        wanted_answer world metadata request.later >>= λ later. Ok (changes_told form earlier later))
     unfolding changes_in
-    no_later e h =
-        then_ends stops ⊥ (wanted_answer world metadata (earlier_of from request)) _ earlier e was
-        (first_ends stops ⊥ (EndsAt world f (reads world metadata request)) (wanted_answer world metadata request) _ e
-        (λ p m. behind world f (reads world metadata request) p m metadata (earlier_of from request) earlier was) h)
+    behind_lineage = rw follows refl
 
-    pub changes_there : (later : List OwnedLine) → wanted_answer world metadata request ≡ Ok later
-        → changes_in world metadata from request ≡ Ok (changes_text earlier later)
-    unfolding changes_in
-    changes_there later is = rw (was, is) refl
+    pub no_earlier : (e : RunFault)
+        → MayEnd (wanted_answer world metadata request.earlier)
+        (EndsAt world f (reads world metadata request.earlier)) ⊥ e
+        → MayEnd (changes_in form world metadata request) stops ⊥ e
+    no_earlier e h = subst (λ x. MayEnd x stops ⊥ e) (sym behind_lineage)
+        (first_ends stops ⊥ (EndsAt world f (reads world metadata request.earlier))
+        (wanted_answer world metadata request.earlier) _ e
+        (λ p m. ends_first world f (reads world metadata request.earlier) (reads world metadata request.later) p m) h)
+
+    module _ (earlier : List OwnedLine) (was : wanted_answer world metadata request.earlier ≡ Ok earlier) where
+      pub no_later : (e : RunFault)
+          → MayEnd (wanted_answer world metadata request.later)
+          (EndsAt world f (reads world metadata request.later)) ⊥ e
+          → MayEnd (changes_in form world metadata request) stops ⊥ e
+      no_later e h = subst (λ x. MayEnd x stops ⊥ e) (sym behind_lineage)
+          (then_ends stops ⊥ (wanted_answer world metadata request.earlier) _ earlier e was
+          (first_ends stops ⊥ (EndsAt world f (reads world metadata request.later))
+          (wanted_answer world metadata request.later) _ e
+          (λ p m. behind world f (reads world metadata request.later) p m metadata request.earlier earlier was) h))
+
+      pub changes_there : (later : List OwnedLine) → wanted_answer world metadata request.later ≡ Ok later
+          → changes_in form world metadata request ≡ Ok (changes_told form earlier later)
+      changes_there later is = behind_lineage ∙ rw (was, is) refl
 
 -- ---- the metadata in a file
 
-module _ (f : List ℕ → Type 0) (world : World) (path : List ℕ) (from : Target) (request : Request) (workers : ℕ) where
+module _ (f : List ℕ → Type 0) (form : Format) (world : World) (path : List ℕ) (request : ChangesRequest)
+    (workers : ℕ) where
   abbrev at_reads : List ℕ → Type 0
-  at_reads = EndsAt world f (changes_reads_at world path from request)
+  at_reads = EndsAt world f (changes_reads_at world path request)
 
   pub no_workers : (w : Type 0) (e : RunFault) → (e ≡ run.Workers) × ((workers ≡ 0) ⊎ (64 < workers))
-      → MayEnd (changes_at world path from request workers) at_reads w e
+      → MayEnd (changes_at form world path request workers) at_reads w e
   unfolding changes_at
-  no_workers w e h = subst (λ x. MayEnd (changes_at world path from request workers) at_reads w x) (sym h.0)
+  no_workers w e h = subst (λ x. MayEnd (changes_at form world path request workers) at_reads w x) (sym h.0)
       (not_enough workers _ h.1)
 
   module _ (some : 0 < workers) (few : workers ≤ 64) where
-    told_in : changes_at world path from request workers
-        ≡ (file_in world path >>= λ metadata. changes_in world metadata from request)
+    told_in : changes_at form world path request workers
+        ≡ (file_in world path >>= λ metadata. changes_in form world metadata request)
     unfolding changes_at
     told_in = enough workers _ some few
 
     pub no_metadata : (w : Type 0) (e : RunFault) → MayEnd (file_in world path) (EndsAt world f (path ∷ [])) ⊥ e
-        → MayEnd (changes_at world path from request workers) at_reads w e
+        → MayEnd (changes_at form world path request workers) at_reads w e
     unfolding changes_reads_at
     no_metadata w e h = subst (λ x. MayEnd x at_reads w e) (sym told_in)
         (first_ends at_reads w (EndsAt world f (path ∷ [])) (file_in world path) _ e
-        (λ p m. only_first world f path (changes_reads_behind world from request (file_in world path)) p m) h)
+        (λ p m. only_first world f path (changes_reads_behind world request (file_in world path)) p m) h)
 
     module _ (metadata : List ℕ) (has : file_in world path ≡ Ok metadata) where
-      pub told_behind : changes_at world path from request workers ≡ changes_in world metadata from request
+      pub told_behind : changes_at form world path request workers ≡ changes_in form world metadata request
       told_behind = told_in ∙ rw has refl
 
-      reads_of_metadata : (p : List ℕ) → EndsAt world f (both_reads world metadata from request) p → at_reads p
+      reads_of_metadata : (p : List ℕ) → EndsAt world f (both_reads world metadata request) p → at_reads p
       unfolding changes_reads_at
       reads_of_metadata p h =
-          subst (λ found. EndsAt world f (path ∷ changes_reads_behind world from request found) p) (sym has)
-          (fails_later world f path metadata (both_reads world metadata from request) p has h)
+          subst (λ found. EndsAt world f (path ∷ changes_reads_behind world request found) p) (sym has)
+          (fails_later world f path metadata (both_reads world metadata request) p has h)
 
       pub ends_behind : (w : Type 0) (e : RunFault)
-          → MayEnd (changes_in world metadata from request)
-          (EndsAt world f (both_reads world metadata from request)) w e
-          → MayEnd (changes_at world path from request workers) at_reads w e
+          → MayEnd (changes_in form world metadata request)
+          (EndsAt world f (both_reads world metadata request)) w e
+          → MayEnd (changes_at form world path request workers) at_reads w e
       ends_behind w e h = subst (λ x. MayEnd x at_reads w e) (sym told_behind)
-          (more_reads (changes_in world metadata from request)
-          (EndsAt world f (both_reads world metadata from request)) at_reads w e reads_of_metadata h)
+          (more_reads (changes_in form world metadata request)
+          (EndsAt world f (both_reads world metadata request)) at_reads w e reads_of_metadata h)

@@ -1,4 +1,8 @@
+pub mod Alike
+pub mod Answered
 pub mod Asking
+pub mod Following
+pub mod Lacking
 pub mod Meaning
 pub mod MoreGiven
 pub mod Plans

@@ -49,7 +49,7 @@ each_path earlier later path h k =
 
 -- ---- applied
 
-altered_alike : (a b : OwnedLine) (ps es : List FileChange) → (altered b ps es ≡ [] → lines_told a b ≡ [])
+pub altered_alike : (a b : OwnedLine) (ps es : List FileChange) → (altered b ps es ≡ [] → lines_told a b ≡ [])
     → AreAlike (after (altered b ps es) (Some a)) (Some b)
 altered_alike a b [] [] h = inr (h refl)
 altered_alike a b [] (e ∷ es) h = inl refl
@@ -105,7 +105,7 @@ file_itself x = rw (
 files_itself : (xs : List Entry) → file_changes xs xs ≡ []
 files_itself xs = none_told file_path file.Removed file.Added files_told (λ x. rw (file_itself x) refl) xs
 
-line_itself : (l : OwnedLine) → lines_told l l ≡ []
+pub line_itself : (l : OwnedLine) → lines_told l l ≡ []
 line_itself l = rw (file_itself l.file, files_itself l.positions, files_itself l.equalities) refl
 
 pub plan_itself : (plan : List OwnedLine) → line_changes plan plan ≡ []

@@ -131,7 +131,7 @@ fn push_added_files<'a>(
 }
 
 /// What became of delete files.
-fn file_changes<'a>(
+pub fn file_changes<'a>(
     alloc: Global,
     earlier: &PlanFiles<'a>,
     later: &PlanFiles<'a>,

@@ -3,11 +3,15 @@
 #![tactic(auto)]
 
 mod changes;
+mod json_lines;
 pub mod laws;
+mod lineage;
 mod lines;
 mod running;
 mod same;
 
-pub use changes::{Change, FileChange, line_changes};
+pub use changes::{Change, FileChange, file_changes, line_changes};
+pub use json_lines::changes_objects;
 pub use lines::changes_text;
-pub use running::changes_file;
+pub use running::{changes_file, changes_file_json};
+pub use same::is_same_file;

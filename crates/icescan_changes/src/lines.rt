@@ -63,7 +63,7 @@ fn push_more_ids(text: &mut Vec<u8>, ids: &[i32]) -> Result<(), AllocError>
 }
 
 /// Puts ids last, with commas between them, or `-`.
-fn push_ids(text: &mut Vec<u8>, ids: &[i32]) -> Result<(), AllocError>
+pub(crate) fn push_ids(text: &mut Vec<u8>, ids: &[i32]) -> Result<(), AllocError>
     ensures { OnOk result (text.new.items ≡ text.old.items ++ ids_text ids.now) }
 {
     match ids {
@@ -236,7 +236,7 @@ fn is_kind(kind: Kind, change: &Change<'_>) -> bool
 }
 
 /// How many changes are of this kind.
-fn count_kind(changes: &[Change<'_>], kind: Kind) -> usize
+pub(crate) fn count_kind(changes: &[Change<'_>], kind: Kind) -> usize
     ensures { result ≡ count_by (is_kind kind) changes.now }
 {
     let mut count = 0;

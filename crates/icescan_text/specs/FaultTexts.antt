@@ -1,6 +1,7 @@
 -- The program's own line for a fault: number, name and arguments, with a nested fault in place of its argument.
 -- S is a fault of a schema, V of a container, M of metadata, N of a list or a manifest, F of a filter, X of a scan, Z
--- of a plan, C of a change file, K of a commit, B of the bundle, P of a read or of the number of workers, W of a write.
+-- of a plan, C of a change file, K of a commit, L of a snapshot's ancestors, B of the bundle, P of a read or of the
+-- number of workers, W of a write.
 use Rattle.std.specs.Prelude.{ℕ, List, [], ◌∷◌, ◌++◌, codes}
 use Rattle.avro_schema.specs.declared.fault.SchemaFault.{SchemaFault}
 use Rattle.avro_schema.specs.declared.fault.SchemaFault.TheVariants as schema
@@ -21,6 +22,8 @@ use Rattle.ice_state.specs.declared.fault.FinishFault.{FinishFault}
 use Rattle.ice_state.specs.declared.fault.FinishFault.TheVariants as finish
 use Rattle.icescan_text.specs.declared.drill_fault.DrillFault.{DrillFault}
 use Rattle.icescan_text.specs.declared.drill_fault.DrillFault.TheVariants as drill
+use Rattle.icescan_text.specs.declared.lineage_fault.LineageFault.{LineageFault}
+use Rattle.icescan_text.specs.declared.lineage_fault.LineageFault.TheVariants as lineage
 use Rattle.ice_catalog_changes.specs.declared.fault.PrepareFault.{PrepareFault}
 use Rattle.ice_catalog_changes.specs.declared.fault.PrepareFault.TheVariants as prepare
 use Rattle.icescan_text.specs.Changes.{member_name as change_member_name}
@@ -122,6 +125,11 @@ unfoldable pub drill_fault_text : DrillFault → List ℕ
 drill_fault_text drill.Conflict = codes "Conflict"
 drill_fault_text (drill.Lost path) = named_path (codes "Lost ") path
 
+-- the id is that of a snapshot
+unfoldable pub lineage_text : LineageFault → List ℕ
+lineage_text (lineage.NotAppended id) = named_signed (codes "L1 NotAppended ") id
+lineage_text lineage.NotAncestor = codes "L2 NotAncestor"
+
 unfoldable pub change_text : ChangeFault → List ℕ
 change_text change.NotJson = codes "C1 BadChange -"
 change_text (change.Bad member) = codes "C1 BadChange " ++ change_member_name member
@@ -154,6 +162,7 @@ run_text (run.Metadata fault) = meta_text fault
 run_text (run.Filter fault) = filter_text fault
 run_text (run.Drill fault) = drill_fault_text fault
 run_text (run.Locate fault) = newest_text fault
+run_text (run.Lineage fault) = lineage_text fault
 run_text (run.Change fault) = change_text fault
 run_text (run.Prepare fault) = prepare_text fault
 run_text (run.Conflict path) = named_path (codes "Conflict ") path

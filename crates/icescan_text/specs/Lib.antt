@@ -3,3 +3,4 @@ pub mod FaultTexts
 pub mod Faults
 pub mod Reads
 pub mod Workers
+pub mod Writes

@@ -13,6 +13,7 @@ ghost use Rattle.icescan_text.specs.declared.fault.RunFault.TheVariants as run;
 
 use crate::change::ChangeFault;
 use crate::drill_fault::DrillFault;
+use crate::lineage_fault::LineageFault;
 use avro_file::AvroFault;
 use avro_schema::SchemaFault;
 use contract_words::Text;
@@ -66,6 +67,9 @@ pub enum RunFault {
     /// The drill is refused.
     #[error("the drill is refused: {0:?}")]
     Drill(DrillFault),
+    /// A snapshot does not follow another by appends alone.
+    #[error("the snapshot does not follow the other by appends alone: {0:?}")]
+    Lineage(LineageFault),
     /// The change file is refused.
     #[error("the change file is refused: {0:?}")]
     Change(ChangeFault),
@@ -225,10 +229,11 @@ impl From<PlanFault> for RunFault {
 }
 
 impl RunFault {
-    /// The status that the program ends with: 1 where the table or a commit to it is refused, or a file of a drill is
-    /// lost; 2 for the words, the number of workers, the bundle, the filter or the change file; 3 where a read or a
-    /// write failed, or a folder has no newest metadata that can be read; 4 where the place of a commit's metadata is
-    /// taken, or a drill's commit met others too often; 5 where memory ran out.
+    /// The status that the program ends with: 1 where the table or a commit to it is refused, a snapshot does not follow
+    /// another by appends alone, or a file of a drill is lost; 2 for the words, the number of workers, the bundle, the
+    /// filter or the change file; 3 where a read or a write failed, or a folder has no newest metadata that can be read;
+    /// 4 where the place of a commit's metadata is taken, or a drill's commit met others too often; 5 where memory ran
+    /// out.
     pub fn status(&self) -> u8
         ensures { result ≡ status_of self.now }
     {
@@ -244,6 +249,7 @@ impl RunFault {
             RunFault::Locate(fault) => newest_status(fault),
             RunFault::Change(fault) => change_status(*fault),
             RunFault::Prepare(fault) => refused_status(prepare_wants_memory(fault)),
+            RunFault::Lineage(_) => 1,
             RunFault::Conflict(_) => 4,
             RunFault::Memory => 5,
         }

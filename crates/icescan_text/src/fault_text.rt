@@ -6,11 +6,13 @@ ghost use Rattle.icescan_text.specs.FaultTexts.{schema_text, avro_text, list_tex
 ghost use Rattle.icescan_text.specs.FaultTexts.{finish_text};
 ghost use Rattle.icescan_text.specs.FaultTexts.{meta_text, filter_text, change_text, prepare_text, drill_fault_text};
 ghost use Rattle.icescan_text.specs.FaultTexts.{run_text, line_text, fault_text, newest_text};
+ghost use Rattle.icescan_text.specs.FaultTexts.{lineage_text};
 ghost use Rattle.icescan_print.specs.Written.{Wrote};
 
 use crate::change::ChangeFault;
 use crate::drill_fault::DrillFault;
 use crate::fault::RunFault;
+use crate::lineage_fault::LineageFault;
 use avro_file::AvroFault;
 use avro_schema::SchemaFault;
 use ice_catalog_changes::PrepareFault;
@@ -61,6 +63,7 @@ fn put_run_fault<S: Sink>(sink: &mut S, fault: &RunFault) -> Result<(), SinkFaul
         RunFault::Filter(fault) => put_filter_fault(sink, *fault),
         RunFault::Drill(fault) => put_drill_fault(sink, fault),
         RunFault::Locate(fault) => put_newest_fault(sink, fault),
+        RunFault::Lineage(fault) => put_lineage_fault(sink, *fault),
         RunFault::Change(fault) => put_change_fault(sink, *fault),
         RunFault::Prepare(fault) => put_prepare_fault(sink, fault),
         RunFault::Conflict(path) => put_named_path(sink, b"Conflict ", path.as_bytes()),
@@ -83,6 +86,16 @@ fn put_newest_fault<S: Sink>(sink: &mut S, fault: &NewestFault) -> Result<(), Si
         }
         NewestFault::Compressed(name) => put_named_path(sink, b"P9 Compressed ", name.as_bytes()),
         NewestFault::Memory => write_all(sink, b"Memory"),
+    }
+}
+
+#[tactic(auto, unfolding(crate::specs::FaultTexts::lineage_text))]
+fn put_lineage_fault<S: Sink>(sink: &mut S, fault: LineageFault) -> Result<(), SinkFault>
+    ensures { Wrote S.taken S.may_fail sink.old result sink.new (lineage_text fault) }
+{
+    match fault {
+        LineageFault::NotAppended(id) => put_named_long(sink, b"L1 NotAppended ", id),
+        LineageFault::NotAncestor => write_all(sink, b"L2 NotAncestor"),
     }
 }
 

@@ -14,6 +14,17 @@ pub struct Request {
     pub filter: Option<Text>,
 }
 
+/// The changes of a table that are asked for.
+#[derive(Debug, Drop)]
+pub struct ChangesRequest {
+    /// The plan from which they are told.
+    pub earlier: Request,
+    /// The plan up to which they are told.
+    pub later: Request,
+    /// Whether each snapshot after the earlier one has to be an append.
+    pub appends: bool,
+}
+
 /// How the words of an answer are set apart.
 #[derive(Clone, Copy, Debug, PartialEq, Eq)]
 pub enum Separator {

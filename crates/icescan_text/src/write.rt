@@ -1,8 +1,7 @@
 //! Writing a plan.
 
-ghost use Rattle.std.specs.Prelude.{◌≡◌, ◌⊎◌, OnOk, IfErr, IsErrOf};
 ghost use Rattle.icescan_print.specs.PlanTexts.{plan_text};
-ghost use Rattle.icescan_print.specs.Written.{Appends, AppendsFront};
+ghost use Rattle.icescan_text.specs.Writes.{WroteOrRefused};
 
 use crate::fault::RunFault;
 use crate::workers::Workers;
@@ -14,12 +13,7 @@ use std::thread::Threads;
 /// Writes the text of a plan and nothing else. It refuses when out of memory, and then nothing was written, or where a
 /// write fails, and then a front of the text was.
 pub fn write_plan<S: Sink>(alloc: Global, lines: &Lines<'_>, sink: &mut S) -> Result<(), RunFault>
-    ensures all { OnOk result (Appends (S.taken sink.old) (S.taken sink.new) (plan_text lines.now)) }
-    ensures causes { IfErr result (λ e. (e ≡ RunFault.Memory) ⊎ (e ≡ RunFault.Write)) }
-    ensures nothing { IsErrOf result RunFault.Memory → S.taken sink.new ≡ S.taken sink.old }
-    ensures front { IsErrOf result RunFault.Write →
-        AppendsFront (S.taken sink.old) (S.taken sink.new) (plan_text lines.now) }
-    ensures cause { IsErrOf result RunFault.Write → S.may_fail sink.old }
+    ensures { WroteOrRefused S.taken S.may_fail sink.old result sink.new (plan_text lines.now) }
 {
     let mut page = Page::new(alloc)?;
     let deletes = count_deletes(lines);
@@ -40,12 +34,7 @@ pub fn write_plan_by_workers<R: Threads + Sync, S: Sink>(
     workers: Workers,
     sink: &mut S,
 ) -> Result<(), RunFault>
-    ensures all { OnOk result (Appends (S.taken sink.old) (S.taken sink.new) (plan_text lines.now)) }
-    ensures causes { IfErr result (λ e. (e ≡ RunFault.Memory) ⊎ (e ≡ RunFault.Write)) }
-    ensures nothing { IsErrOf result RunFault.Memory → S.taken sink.new ≡ S.taken sink.old }
-    ensures front { IsErrOf result RunFault.Write →
-        AppendsFront (S.taken sink.old) (S.taken sink.new) (plan_text lines.now) }
-    ensures cause { IsErrOf result RunFault.Write → S.may_fail sink.old }
+    ensures { WroteOrRefused S.taken S.may_fail sink.old result sink.new (plan_text lines.now) }
 {
     let mut page = Page::new(alloc)?;
     let deletes = count_deletes(lines);

@@ -23,6 +23,7 @@ returns c =
       | then-files-test+else-j-len w ↦ inr (omega (arith, w.if-j-len.false, w.len-in-files.ensures.counted))
       | else-files-test w ↦ inl (omega (arith, w.files-test.false, c.len.ensures.counted))
     ] in
-    c.from_vec.ensures ∙ walk_ends file_path change.Removed change.Added files_told earlier later c.files.i c.files.j c.files.changes.items
+    c.from_vec.ensures ∙ walk_ends file_path change.Removed change.Added files_told earlier later c.files.i c.files.j
+    c.files.changes.items
     c.push_removed_files.new.changes.items c.push_added_files.new.changes.items (file_changes earlier later) ended
     c.in_ok-push_removed_files.ensures c.in_ok-push_added_files.ensures c.files.invariant
