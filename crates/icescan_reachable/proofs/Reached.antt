@@ -34,11 +34,11 @@ use Rattle.icescan_text.specs.Reads.{AreRowsGiven, rows_in}
 
 -- ---- lines in their order
 
-from_once : (lines : List (List ℕ)) (text : List ℕ) → Contains (once_in_order lines) text → Contains lines text
+pub from_once : (lines : List (List ℕ)) (text : List ℕ) → Contains (once_in_order lines) text → Contains lines text
 from_once lines text h =
     in_sorted line_before lines text (Contains-from_dedup bytes_eq (sorted line_before lines) text h)
 
-to_once : (lines : List (List ℕ)) (text : List ℕ) → Contains lines text → Contains (once_in_order lines) text
+pub to_once : (lines : List (List ℕ)) (text : List ℕ) → Contains lines text → Contains (once_in_order lines) text
 to_once lines text h = Contains-dedup nat_list_eq_equiv (λ x y e. (bytes_eq-Decides x y).0 e) (sorted line_before lines)
     text (to_sorted line_before lines text h)
 
@@ -58,7 +58,7 @@ of_list snapshot snapshots lines text list at (inl h) =
 of_list snapshot snapshots lines text list at (inr (other, (s, i, is), e)) =
     inr (other, (s, later snapshot snapshots s i, is), e)
 
-lists_only : (snapshots : List Snapshot) (lines out : List (List ℕ)) (text : List ℕ)
+pub lists_only : (snapshots : List Snapshot) (lines out : List (List ℕ)) (text : List ℕ)
     → lists_behind snapshots lines ≡ Some out → Contains out text → OfLists snapshots lines text
 lists_only [] lines out text is h =
     inl (subst (λ (x : List (List ℕ)). Contains x text) (sym (same_Some lines out is)) h)
@@ -67,7 +67,7 @@ lists_only (snapshot ∷ snapshots) lines out text is h =
     out is (λ list at rest. of_list snapshot snapshots lines text list at
     (lists_only snapshots (lines ++ line kind.List list ∷ []) out text rest h))
 
-lists_keep : (snapshots : List Snapshot) (lines out : List (List ℕ)) (text : List ℕ)
+pub lists_keep : (snapshots : List Snapshot) (lines out : List (List ℕ)) (text : List ℕ)
     → lists_behind snapshots lines ≡ Some out → Contains lines text → Contains out text
 lists_keep [] lines out text is h = subst (λ (x : List (List ℕ)). Contains x text) (same_Some lines out is) h
 lists_keep (snapshot ∷ snapshots) lines out text is h =
@@ -81,7 +81,7 @@ list_first lines file list same =
     subst (λ (p : List ℕ). Contains (lines ++ line kind.List p ∷ []) (line kind.List file)) same
     (Contains-push lines (line kind.List file))
 
-lists_all : (snapshots : List Snapshot) (lines out : List (List ℕ)) (file : List ℕ) (wanted : Snapshot)
+pub lists_all : (snapshots : List Snapshot) (lines out : List (List ℕ)) (file : List ℕ) (wanted : Snapshot)
     → lists_behind snapshots lines ≡ Some out → Contains snapshots wanted → wanted.manifest_list ≡ Some file
     → Contains out (line kind.List file)
 lists_all [] lines out file wanted is i has = absurd (nowhere wanted i)
@@ -122,7 +122,7 @@ module _ (gives : Giving) where
       × (list : List ℕ) × (snapshot.manifest_list ≡ Some list)
       × (rows : List Row) × AreRowsGiven gives list rows × Contains rows row
 
-  rows_only : (snapshots : List Snapshot) (rows all : List Row) (row : Row) → AreRowsBehind gives rows snapshots all
+  pub rows_only : (snapshots : List Snapshot) (rows all : List Row) (row : Row) → AreRowsBehind gives rows snapshots all
       → Contains all row → Contains rows row ⊎ Lists snapshots row
   rows_only [] rows all row h i = inl (subst (λ (x : List Row). Contains x row) h i)
   rows_only (snapshot ∷ snapshots) rows all row (list, is, more, given, rest) i =
@@ -136,7 +136,7 @@ module _ (gives : Giving) where
         | inr w ↦ inr (w.0, later snapshot snapshots w.0 w.1, w.2, w.3, w.4, w.5, w.6)
       ]
 
-  rows_keep : (snapshots : List Snapshot) (rows all : List Row) (row : Row) → AreRowsBehind gives rows snapshots all
+  pub rows_keep : (snapshots : List Snapshot) (rows all : List Row) (row : Row) → AreRowsBehind gives rows snapshots all
       → Contains rows row → Contains all row
   rows_keep [] rows all row h i = subst (λ (x : List Row). Contains x row) (sym h) i
   rows_keep (snapshot ∷ snapshots) rows all row (list, is, more, given, rest) i =
@@ -166,7 +166,7 @@ module _ (gives : Giving) where
             inr (row, here row rows row refl, inr (found, given, w.0, w.1, w.2))
       ]
 
-  manifests_only : (rows : List Row) (lines all : List (List ℕ)) (text : List ℕ)
+  pub manifests_only : (rows : List Row) (lines all : List (List ℕ)) (text : List ℕ)
       → AreManifestsBehind gives lines rows all → Contains all text → Contains lines text ⊎ Told rows text
   manifests_only [] lines all text h i = inl (subst (λ (x : List (List ℕ)). Contains x text) h i)
   manifests_only (row ∷ rows) lines all text (found, given, rest) i =
@@ -176,7 +176,7 @@ module _ (gives : Giving) where
         | inr w ↦ inr (w.0, later row rows w.0 w.1, w.2)
       ]
 
-  manifests_keep : (rows : List Row) (lines all : List (List ℕ)) (text : List ℕ)
+  pub manifests_keep : (rows : List Row) (lines all : List (List ℕ)) (text : List ℕ)
       → AreManifestsBehind gives lines rows all → Contains lines text → Contains all text
   manifests_keep [] lines all text h i = subst (λ (x : List (List ℕ)). Contains x text) (sym h) i
   manifests_keep (row ∷ rows) lines all text (found, given, rest) i =
@@ -201,8 +201,8 @@ module _ (gives : Giving) where
         let one : Ok found ≡ Ok found' = sym is
         ∙ ap (live_of row (bare_spec row)) (same_bytes row.path row.path bytes bytes' refl g g') ∙ is' in cc
 
-    rows_all : (snapshots : List Snapshot) (rows all : List Row) (row : Row) → AreRowsBehind gives rows snapshots all
-        → Lists snapshots row → Contains all row
+    pub rows_all : (snapshots : List Snapshot) (rows all : List Row) (row : Row)
+        → AreRowsBehind gives rows snapshots all → Lists snapshots row → Contains all row
     rows_all [] rows all row h w = absurd (nowhere w.0 w.1)
     rows_all (snapshot ∷ snapshots) rows all row (list, is, more, given, rest) w =
         elim (cases_of snapshot snapshots w.0 w.1) as (λ _. Contains all row) [
@@ -215,8 +215,8 @@ module _ (gives : Giving) where
           | inr i ↦ rows_all snapshots (in_order (rows ++ more)) all row rest (w.0, i, w.2, w.3, w.4, w.5, w.6)
         ]
 
-    manifest_all : (rows : List Row) (lines all : List (List ℕ)) (row : Row) → AreManifestsBehind gives lines rows all
-        → Contains rows row → Contains all (line kind.Manifest row.path)
+    pub manifest_all : (rows : List Row) (lines all : List (List ℕ)) (row : Row)
+        → AreManifestsBehind gives lines rows all → Contains rows row → Contains all (line kind.Manifest row.path)
     manifest_all [] lines all row h i = absurd (nowhere row i)
     manifest_all (first ∷ rows) lines all row (found, given, rest) i =
         elim (cases_of first rows row i) as (λ _. Contains all (line kind.Manifest row.path)) [
@@ -229,7 +229,7 @@ module _ (gives : Giving) where
           | inr j ↦ manifest_all rows ((lines ++ line kind.Manifest first.path ∷ []) ++ live_lines found) all row rest j
         ]
 
-    files_all : (rows : List Row) (lines all : List (List ℕ)) (row : Row) (found : List Live) (live : Live)
+    pub files_all : (rows : List Row) (lines all : List (List ℕ)) (row : Row) (found : List Live) (live : Live)
         → AreManifestsBehind gives lines rows all → Contains rows row → AreLiveGiven gives row found
         → Contains found live → Contains all (entry_line live.entry)
     files_all [] lines all row found live h i given j = absurd (nowhere row i)

@@ -12,14 +12,14 @@ use serde_json::Value;
 use std::alloc::Global;
 
 /// Why metadata is refused in which an item of an array names no file.
-fn unnamed() -> RunFault
+pub fn unnamed() -> RunFault
     ensures { result ≢ RunFault.Write }
 {
     RunFault::Metadata(MetaFault::WrongKind(Member::Element))
 }
 
 /// The path that an item names by a member.
-fn path_in<'a>(item: &'a Value, member: &str) -> Result<&'a str, RunFault>
+pub fn path_in<'a>(item: &'a Value, member: &str) -> Result<&'a str, RunFault>
     ensures path { IfOk result (λ path. path_in member.now (view item.now) ≡ Some path.now) }
     ensures write { IsErrOf result RunFault.Write → ⊥ }
 {
@@ -52,7 +52,7 @@ fn put_items(
 }
 
 /// Puts last the lines of the files that the items of an array of the metadata name, where it has that array.
-fn put_named(
+pub fn put_named(
     lines: &mut Vec<Items<u8>>,
     alloc: Global,
     metadata: &Value,

@@ -16,7 +16,7 @@ use icescan_text::{RunFault, read_file};
 use std::alloc::Global;
 
 /// The lines of the files that this metadata reaches, which is at a path.
-fn lines_of<F: Files>(
+pub fn lines_of<F: Files>(
     alloc: Global,
     files: &F,
     path: &str,
@@ -36,7 +36,7 @@ fn lines_of<F: Files>(
 }
 
 /// The lines of the files that the metadata at a path reaches.
-fn lines_at<F: Files>(alloc: Global, files: &F, path: &str) -> Result<Vec<Items<u8>>, RunFault>
+pub fn lines_at<F: Files>(alloc: Global, files: &F, path: &str) -> Result<Vec<Items<u8>>, RunFault>
     ensures write { IsErrOf result RunFault.Write → ⊥ }
     ensures given { IfOk result (λ lines. AreLinesGivenAt (F.gives files.now) path.now lines.items) }
 {

@@ -1,0 +1,5 @@
+pub mod SetApart
+pub mod KeptFiles
+pub mod KeptReached
+pub mod MoreKept
+pub mod Split

@@ -1,0 +1,69 @@
+-- The lines of the files that a table reaches without some of its snapshots, and of those that these alone reach, of
+-- bytes that reads gave.
+use Rattle.std.specs.Prelude.{◌≡◌, ℕ, ℤ, List, [], ◌++◌, codes, Option, Some, Ok}
+use Rattle.ice_desk.specs.Given.{Giving}
+use Rattle.icescan_forms.specs.declared.part.Part.{Part}
+use Rattle.icescan_forms.specs.declared.part.Part.TheVariants as part
+use Rattle.ice_manifest_reading.specs.declared.row.Row.{Row}
+use Rattle.ice_meta.specs.Targets.{Described, metadata_of}
+use Rattle.icescan_parts.specs.Alone.{alone}
+use Rattle.icescan_parts.specs.Gone.{kept, own_kept}
+use Rattle.icescan_parts.specs.Ids.{listed}
+use Rattle.icescan_print.specs.Written.{Appends}
+use Rattle.icescan_reachable.specs.Given.{AreLinesGiven, AreManifestsBehind, AreRowsBehind, WroteReached}
+use Rattle.icescan_reachable.specs.Given.{lists_behind}
+use Rattle.icescan_reachable.specs.Lines.{lines_text, once_in_order}
+
+module _ (gives : Giving) (gone : List ℤ) (path : List ℕ) where
+  -- The lines of the files that this metadata reaches, which is at the path, without the snapshots that go: in the
+  -- order of their bytes, equal ones once.
+  pub record AreLinesKept (metadata : Described) (lines : List (List ℕ)) : Type 0 where
+    pub own : List (List ℕ)
+    pub lists : List (List ℕ)
+    pub rows : List Row
+    pub all : List (List ℕ)
+    pub of_metadata : own_kept gone path metadata.json ≡ Some own
+    pub of_snapshots : lists_behind (kept gone metadata.table.snapshots) own ≡ Some lists
+    pub listed : AreRowsBehind gives [] (kept gone metadata.table.snapshots) rows
+    pub read : AreManifestsBehind gives lists rows all
+    pub are : lines ≡ once_in_order all
+
+  -- The lines of the files that the snapshots that go alone reach: of all lines those whose paths no line of a file has
+  -- that is reached without these snapshots.
+  pub record AreLinesLetGo (metadata : Described) (lines : List (List ℕ)) : Type 0 where
+    pub all : List (List ℕ)
+    pub rest : List (List ℕ)
+    pub reached : AreLinesGiven gives path metadata all
+    pub stay : AreLinesKept metadata rest
+    pub are : lines ≡ alone all rest
+
+  -- the same of metadata that a read of the path gave
+  pub record AreLinesKeptAt (lines : List (List ℕ)) : Type 0 where
+    pub bytes : List ℕ
+    pub metadata : Described
+    pub given : gives path (Some bytes)
+    pub says : metadata_of bytes ≡ Ok metadata
+    pub are : AreLinesKept metadata lines
+
+  pub record AreLinesLetGoAt (lines : List (List ℕ)) : Type 0 where
+    pub bytes : List ℕ
+    pub metadata : Described
+    pub given : gives path (Some bytes)
+    pub says : metadata_of bytes ≡ Ok metadata
+    pub are : AreLinesLetGo metadata lines
+
+module _ (gives : Giving) where
+  -- What was written is the text of such lines. A text lists the snapshots that go.
+  abbrev pub WroteKept : List ℕ → List ℕ → Option (List ℕ) → Option (List ℕ) → Type 0
+  WroteKept snapshots path output output' = (gone : List ℤ) × (listed gone ≡ codes "," ++ snapshots)
+      × (lines : List (List ℕ)) × AreLinesKeptAt gives gone path lines × Appends output output' (lines_text lines)
+
+  abbrev pub WroteLetGo : List ℕ → List ℕ → Option (List ℕ) → Option (List ℕ) → Type 0
+  WroteLetGo snapshots path output output' = (gone : List ℤ) × (listed gone ≡ codes "," ++ snapshots)
+      × (lines : List (List ℕ)) × AreLinesLetGoAt gives gone path lines × Appends output output' (lines_text lines)
+
+  -- the part that is asked for of what the metadata at a path reaches
+  abbrev pub WrotePart : Part → List ℕ → Option (List ℕ) → Option (List ℕ) → Type 0
+  WrotePart part.All path output output' = WroteReached gives path output output'
+  WrotePart (part.Only snapshots) path output output' = WroteLetGo snapshots path output output'
+  WrotePart (part.Without snapshots) path output output' = WroteKept snapshots path output output'

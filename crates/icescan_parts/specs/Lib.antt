@@ -1,0 +1,6 @@
+pub mod Ids
+pub mod Gone
+pub mod Alone
+pub mod Kept
+pub mod Parts
+pub mod Stays

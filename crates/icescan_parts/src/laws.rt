@@ -1,0 +1,21 @@
+//! What the parts come to.
+
+ghost use Rattle.icescan_parts.specs.Parts.{AreApart, AreNoMore, AreTogether};
+ghost use Rattle.icescan_parts.specs.Stays.{LetsGoNoneKept, TellsAllKept};
+
+use ice_desk::Files;
+
+/// What some snapshots alone reach, and what is reached without them, has no file in common. Each line of all is in the
+/// first, or the second has a line of its path; and the first has no line that is not among all.
+pub fn parts_are_apart()
+    ensures apart { AreApart }
+    ensures together { AreTogether }
+    ensures no_more { AreNoMore }
+{}
+
+/// Where reads give what a world has, each file that is reached without some snapshots has its line among those that
+/// stay, and is none of those that are let go.
+pub fn none_let_go_is_needed<F: Files>(files: &F)
+    ensures kept { TellsAllKept (F.gives files.now) }
+    ensures let_go { LetsGoNoneKept (F.gives files.now) }
+{}

@@ -1,0 +1,4 @@
+pub mod Alike
+pub mod Members
+pub mod Searched
+pub mod Unknown
