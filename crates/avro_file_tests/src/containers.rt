@@ -1,4 +1,4 @@
-//! Container files: vectors by hand from the specification, files of Avro's own libraries, and what a writer gives.
+//! Container files: vectors by hand from the specification, and files of Avro's own libraries.
 
 use crate::cases::expect;
 use crate::look::looks;
@@ -8,8 +8,8 @@ use std::test::*;
 
 mod files;
 pub mod libraries;
+mod types;
 mod values;
-mod written;
 
 const MARKER: [u8; 16] = [0, 1, 2, 3, 4, 5, 6, 7, 8, 9, 10, 11, 12, 13, 14, 15];
 

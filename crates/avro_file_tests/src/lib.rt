@@ -1,5 +1,4 @@
-//! Tests of avro_schema, avro_file and avro_file_picked: which trees and which faults schemas' texts give, files that are read
-//! and written, and wanted values alone.
+//! Tests of avro_schema and avro_file: which trees and which faults schemas' texts give, and files that are read.
 #![tactic(auto)]
 
 #[cfg(test)]
@@ -8,7 +7,5 @@ mod cases;
 mod containers;
 #[cfg(test)]
 mod look;
-#[cfg(test)]
-mod picked;
 #[cfg(test)]
 mod schemas;

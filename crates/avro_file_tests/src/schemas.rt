@@ -11,11 +11,7 @@ mod cases;
 mod samples;
 
 use cases::{FIRST_FAULTS, NAMES, NAMESPACES, PARTS};
-use samples::{
-    BARE_LIST, BARE_MANIFEST, DAY_MANIFEST_TREE, GO_MANIFEST, JAVA_DAY_MANIFEST, JAVA_LIST,
-    JAVA_MANIFEST, JAVA_MANIFEST_TREE, JAVA_PLAIN_MANIFEST, LIST_TREE, PLAIN_MANIFEST_TREE,
-    PYTHON_LIST, PYTHON_MANIFEST, PYTHON_MANIFEST_TREE,
-};
+use samples::OF_ICEBERG;
 
 /// Whether a text names a tree that looks like this, or is refused with this fault.
 fn names_tree(alloc: Global, text: &str, look: &str) -> bool {
@@ -27,32 +23,12 @@ fn names_tree(alloc: Global, text: &str, look: &str) -> bool {
 
 #[test]
 fn texts(rt: HostRuntime) {
-    for lines in [PARTS, NAMES, NAMESPACES, FIRST_FAULTS] {
+    for lines in [PARTS, NAMES, NAMESPACES, FIRST_FAULTS, OF_ICEBERG] {
         for line in lines.lines() {
             if let Some((text, look)) = line.split_once(" => ") {
                 expect(&rt, names_tree(rt.alloc(), text, look), line);
             }
         }
-    }
-}
-
-/// Texts of headers, and the trees that they name.
-const OF_ICEBERG: &[(&str, &str)] = &[
-    (JAVA_LIST, LIST_TREE),
-    (PYTHON_LIST, LIST_TREE),
-    (BARE_LIST, LIST_TREE),
-    (JAVA_MANIFEST, JAVA_MANIFEST_TREE),
-    (JAVA_DAY_MANIFEST, DAY_MANIFEST_TREE),
-    (JAVA_PLAIN_MANIFEST, PLAIN_MANIFEST_TREE),
-    (BARE_MANIFEST, PLAIN_MANIFEST_TREE),
-    (PYTHON_MANIFEST, PYTHON_MANIFEST_TREE),
-    (GO_MANIFEST, PYTHON_MANIFEST_TREE),
-];
-
-#[test]
-fn schemas_of_iceberg(rt: HostRuntime) {
-    for (text, tree) in OF_ICEBERG {
-        expect(&rt, names_tree(rt.alloc(), text, tree), text);
     }
 }
 

@@ -1,5 +1,6 @@
 //! Texts of filters, why they are refused, and how filters are shown.
 
+use crate::cases::expect;
 use crate::columns::bound;
 use ice_filter::{Filter, FilterFault, parse};
 use ice_value::ColumnType;
@@ -38,7 +39,7 @@ fn fault(alloc: Global, text: &str) -> Option<FilterFault> {
 #[test]
 fn texts(rt: HostRuntime) {
     for (text, wanted) in &TEXTS {
-        assert!(rt; fault(rt.alloc(), text) == *wanted, "{text}");
+        expect(&rt, fault(rt.alloc(), text) == *wanted, text);
     }
 }
 
@@ -85,10 +86,8 @@ fn refusal(alloc: Global, column_type: ColumnType, text: &str) -> Option<FilterF
 #[test]
 fn columns_and_literals(rt: HostRuntime) {
     for (column_type, text, wanted) in &LITERALS {
-        assert!(rt;
-            refusal(rt.alloc(), *column_type, text) == *wanted,
-            "{text}"
-        );
+        let is_right = refusal(rt.alloc(), *column_type, text) == *wanted;
+        expect(&rt, is_right, text);
     }
 }
 
@@ -127,6 +126,6 @@ static SHOWN: [(&str, &str); 11] = [
 #[test]
 fn shown_filters(rt: HostRuntime) {
     for (text, shown) in &SHOWN {
-        assert!(rt; is_shown(rt.alloc(), text, shown), "{text}");
+        expect(&rt, is_shown(rt.alloc(), text, shown), text);
     }
 }

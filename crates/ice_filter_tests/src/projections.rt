@@ -1,5 +1,6 @@
 //! Projections of filters through a partition field of the column `c`.
 
+use crate::cases::expect;
 use crate::columns::{bound, text};
 use contract_words::Items;
 use ice_filter::Bound;
@@ -7,7 +8,6 @@ use ice_meta::{PartitionField, Spec};
 use ice_project::{PartFilter, project};
 use ice_value::{Cell, ColumnType};
 use std::alloc::{AllocError, Global};
-use std::test::Fail;
 
 /// A predicate without a test, which every partition value meets.
 const TRUE: &str = "[Predicate(Items { items: [] })]";
@@ -160,22 +160,45 @@ fn has(alloc: Global, part: &PartFilter, look: &str) -> bool {
     }
 }
 
-#[test]
-fn projections(rt: HostRuntime) -> Result<(), Fail> {
-    for (transform, column_type, filter, look) in PROJECTED {
-        let filter = bound(rt.alloc(), *column_type, filter)?;
-        let part = projected(rt.alloc(), transform, *column_type, &filter)?;
-        assert!(rt; has(rt.alloc(), &part, look), "{transform}: {look}");
-    }
-    Ok(())
+/// Whether the projection of a filter has this in it.
+fn projects(
+    alloc: Global,
+    transform: &str,
+    column_type: ColumnType,
+    filter: &str,
+    look: &str,
+) -> Option<bool> {
+    let filter = bound(alloc, column_type, filter).ok()?;
+    let part = projected(alloc, transform, column_type, &filter).ok()?;
+    Some(has(alloc, &part, look))
 }
 
 #[test]
-fn partition_values(rt: HostRuntime) -> Result<(), Fail> {
-    let filter = bound(rt.alloc(), ColumnType::Int, "c > 9 and c < 30")?;
-    let part = projected(rt.alloc(), "truncate[10]", ColumnType::Int, &filter)?;
-    for (tens, is_met) in [(0, false), (10, true), (20, true), (30, false)] {
-        assert!(rt; part.meets(&[Cell::Whole(tens)]) == is_met, "{tens}");
+fn projections(rt: HostRuntime) {
+    for (transform, column_type, filter, look) in PROJECTED {
+        let is_right = projects(rt.alloc(), transform, *column_type, filter, look);
+        expect(&rt, is_right == Some(true), look);
     }
-    Ok(())
+}
+
+/// Whether two of these tens meet it, the second and the third.
+fn is_met_by_tens(part: &PartFilter) -> bool {
+    for (tens, is_met) in [(0, false), (10, true), (20, true), (30, false)] {
+        if part.meets(&[Cell::Whole(tens)]) != is_met {
+            return false;
+        }
+    }
+    true
+}
+
+/// Whether a filter between two tens is projected so.
+fn projects_tens(alloc: Global) -> Option<bool> {
+    let filter = bound(alloc, ColumnType::Int, "c > 9 and c < 30").ok()?;
+    let part = projected(alloc, "truncate[10]", ColumnType::Int, &filter).ok()?;
+    Some(is_met_by_tens(&part))
+}
+
+#[test]
+fn partition_values(rt: HostRuntime) {
+    expect(&rt, projects_tens(rt.alloc()) == Some(true), "tens");
 }

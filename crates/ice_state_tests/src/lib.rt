@@ -1,5 +1,5 @@
-//! Tests of ice_state, of what no clause says: that calls succeed where memory is ample, the plan of manifests that
-//! another program wrote, and what a refused growth leaves.
+//! Tests of ice_state and ice_state_entries, of what no clause says: that calls succeed where memory is ample, the plan
+//! of manifests that another program wrote, and what a refused growth leaves.
 #![tactic(auto)]
 
 #[cfg(test)]
@@ -7,9 +7,11 @@ mod answers;
 mod calls;
 #[cfg(test)]
 mod cases;
+mod entry_calls;
 #[cfg(test)]
 mod plans;
 #[cfg(test)]
 mod states;
 
 pub use calls::{into_plan, keeps, lacks_deletes, new, take_apart};
+pub use entry_calls::{add, add_kept};

@@ -1,13 +1,11 @@
-//! Tests of contract_words, ice_value, ice_transform and ice_deletes, of what no clause says: that calls succeed where
-//! memory is ample, and values that the specification and other programs give.
+//! Tests of contract_words, ice_value and ice_transform, of what no clause says: that calls succeed where memory is
+//! ample, and values that the specification and other programs give. Calls of ice_deletes stand here once more, too.
 #![tactic(auto)]
 
 mod applying;
 mod calls;
 #[cfg(test)]
 mod cases;
-#[cfg(test)]
-mod deletes;
 #[cfg(test)]
 mod literals;
 #[cfg(test)]

@@ -5,5 +5,5 @@ use icescan_print::{Output, write_all};
 #[test]
 fn outputs_of_the_system(rt: HostRuntime) {
     let mut output = Output::new(Vec::<u8>::new(rt.alloc()));
-    assert_eq!(rt; write_all(&mut output, b"text"), Ok(()));
+    assert!(rt; write_all(&mut output, b"text").is_ok());
 }

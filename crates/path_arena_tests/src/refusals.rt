@@ -60,7 +60,7 @@ fn a_refused_intern_changes_nothing(rt: HostRuntime) -> Result<(), Fail> {
         intern_at_last(&mut arena, &long_string(number))?;
     }
     for number in 0..40u8 {
-        assert_eq!(rt; arena.intern(&long_string(number))?.place(), number as u32);
+        assert!(rt; arena.intern(&long_string(number))?.place() == number as u32);
     }
     Ok(())
 }

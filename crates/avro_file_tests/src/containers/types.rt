@@ -1,14 +1,8 @@
-//! Files that the writer gives.
+//! A file with a field of every type, by hand from the specification.
 
 use super::*;
-use avro_file::{Datum, Property, Writer};
 
-const METADATA: [Property<'static>; 1] = [Property {
-    key: b"k",
-    value: b"v",
-}];
-
-/// A file of those metadata, before the schema's length.
+/// A file with metadata `k`, before the schema's length.
 const FRONT: &[u8] = b"Obj\x01\x06\x14avro.codec\x08null\x16avro.schema\xf6\x0d";
 
 /// A record with a field of every type.
@@ -63,36 +57,10 @@ fn file_of_every(alloc: Global) -> Result<Vec<u8>, AllocError> {
     .concat(alloc)
 }
 
-/// The first object of a file, as a tree.
-fn first(alloc: Global, bytes: &[u8]) -> Option<Datum<'_>> {
-    let container = Container::open(alloc, bytes).ok()?;
-    let mut objects = container.objects();
-    let object = objects.next().ok()??;
-    object.datum(alloc).ok()
-}
-
-/// The file that is written of such an object.
-fn written(alloc: Global, datum: &Datum<'_>) -> Result<Vec<u8>, AvroFault> {
-    let mut writer = Writer::new(alloc, EVERY, &METADATA, MARKER)?;
-    writer.push(alloc, datum)?;
-    Ok(writer.finish()?)
-}
-
-/// Whether a file is written of its first object as it was.
-fn is_written_back(alloc: Global, bytes: &[u8]) -> bool {
-    match first(alloc, bytes) {
-        Some(datum) => match written(alloc, &datum) {
-            Ok(again) => again.as_slice() == bytes,
-            Err(_) => false,
-        },
-        None => false,
-    }
-}
-
 #[test]
 fn every_type(rt: HostRuntime) {
     let is_right = match file_of_every(rt.alloc()) {
-        Ok(bytes) => gives(rt.alloc(), &bytes, EVERY_LOOK) && is_written_back(rt.alloc(), &bytes),
+        Ok(bytes) => gives(rt.alloc(), &bytes, EVERY_LOOK),
         Err(_) => false,
     };
     expect(&rt, is_right, "a record with a field of every type");
