@@ -1,10 +1,12 @@
 #!/usr/bin/env python3
 """changes.py [--pairs N] PROGRAM..: `changes` against the difference of two plans, made here from their texts.
+changes.py objects: the lines of JSON for a text of `changes` on standard input.
 
 PROGRAM is the built icescan, or words that run it. A table is made in a new folder by forty commits of data files and
 delete files; of N random pairs of its snapshots (500 where N is not given), in either order, with and without a filter,
-`changes` has to print what this script makes of the two texts that `plan` prints. The same of all pairs of snapshots of
-the tables in examples/. Prints one line; the status is 1 where something differs."""
+`changes` has to print what this script makes of the two texts that `plan` prints; at some pairs as lines of JSON, at some
+with `--appends`, which has to be refused where the snapshots of the metadata say so. The same of all pairs of snapshots
+of the tables in examples/. Prints one line; the status is 1 where something differs."""
 import json
 import os
 import random
@@ -17,6 +19,7 @@ sys.path.insert(0, os.path.dirname(os.path.abspath(__file__)))
 import fifty_commits  # noqa: E402
 
 COMMITS = 40
+FORMS = [(), (), ("--format", "json"), ("--appends",), ("--appends", "--format=json")]
 TOP = os.path.join(os.path.dirname(os.path.abspath(__file__)), "..", "..")
 EXAMPLES = [
     ("examples/events-java", "s3://warehouse/db/events", ["id = 42", "ts < 1709769600000000"]),
@@ -74,10 +77,44 @@ def difference(earlier, later):
     return "\n".join(told + ["added %d removed %d altered %d" % (count["+"], count["-"], count["~"]), ""])
 
 
+def objects(text):
+    """The lines of JSON for a text of changes."""
+    signs = {"+": "added", "-": "removed", "~": "altered"}
+    made, became, owner = [], None, None
+    for line in text.split("\n")[:-1]:
+        words = line.split()
+        if words[0] == "added":
+            made.append({"kind": "totals", "added": int(words[1]), "removed": int(words[3]), "altered": int(words[5])})
+        elif words[1] == "data":
+            became, owner = signs[words[0]], path_of(words[2]).decode()
+            made.append({"kind": "data", "change": became, "path": owner, "seq": int(words[4]), "spec": int(words[6]),
+                         "rows": int(words[8]), "size": int(words[10])})
+        else:
+            change = signs[words.pop(0)] if words[0] in signs else became
+            made.append({"kind": words[0], "change": change, "path": path_of(words[1]).decode(), "seq": int(words[3]),
+                         "ids": words[5] if words[0] == "eq" else None, "data": owner})
+    return "".join(json.dumps(m, separators=(",", ":"), ensure_ascii=False) + "\n" for m in made)
+
+
 class Table:
     def __init__(self, program, folder, prefix, metadata):
         self.words = ["--dir", folder, "--prefix", prefix]
         self.program, self.metadata, self.plans = program, metadata, {}
+        with open(os.path.join(folder, metadata[len(prefix) + 1:]), encoding="utf-8") as f:
+            self.snapshots = {s["snapshot-id"]: s for s in json.load(f)["snapshots"]}
+
+    def lineage(self, earlier, later):
+        """The refusal of `--appends`, or nothing."""
+        other, at = "", later
+        for _ in range(len(self.snapshots) + 1):
+            if at == earlier:
+                return other
+            if at not in self.snapshots:
+                break
+            if self.snapshots[at].get("summary", {}).get("operation") != "append":
+                other = "icescan: L1 NotAppended %d\n" % at
+            at = self.snapshots[at].get("parent-snapshot-id")
+        return "icescan: L2 NotAncestor\n"
 
     def run(self, command, *words):
         return subprocess.run(self.program + [command] + self.words + list(words) + [self.metadata],
@@ -90,14 +127,24 @@ class Table:
             self.plans[snapshot, more] = (got.stdout, got.stderr, got.returncode)
         return self.plans[snapshot, more]
 
-    def compare(self, earlier, later, more):
+    def wanted(self, earlier, later, more, form):
+        refused = self.lineage(earlier, later) if "--appends" in form else ""
+        if refused:
+            return "", refused, 1
         a, b = self.plan(earlier, more), self.plan(later, more)
-        got = self.run("changes", "--from", str(earlier), "--to", str(later), *more)
-        want = a if a[2] else b if b[2] else (difference(a[0], b[0]), "", 0)
+        if a[2] or b[2]:
+            return a if a[2] else b
+        text = difference(a[0], b[0])
+        return objects(text) if form[-1:] and form[-1].endswith("json") else text, "", 0
+
+    def compare(self, earlier, later, more, form=()):
+        got = self.run("changes", "--from", str(earlier), "--to", str(later), *more, *form)
+        want = self.wanted(earlier, later, more, form)
         if (got.stdout, got.stderr, got.returncode) != want:
             lines = zip((got.stdout + got.stderr).split("\n") + [""], (want[0] + want[1]).split("\n") + [""])
             first = next((pair for pair in lines if pair[0] != pair[1]), None)
-            fail("from %s to %s %s: status %d, not %d, and %r" % (earlier, later, more, got.returncode, want[2], first))
+            fail("from %s to %s %s: status %d, not %d, and %r"
+                 % (earlier, later, more + tuple(form), got.returncode, want[2], first))
         return want[0].count("\n")
 
 
@@ -126,13 +173,16 @@ def compare_examples(program, rng):
         for earlier in snapshots:
             for later in snapshots:
                 text = rng.choice(filters + [None])
-                lines += table.compare(earlier, later, ("--filter", text) if text else ())
+                lines += table.compare(earlier, later, ("--filter", text) if text else (), rng.choice(FORMS))
                 pairs += 1
     return pairs, lines
 
 
 def main():
     words = sys.argv[1:]
+    if words == ["objects"]:
+        sys.stdout.write(objects(sys.stdin.read()))
+        return
     count = 500
     if words[:1] == ["--pairs"]:
         count, words = int(words[1]), words[2:]
@@ -144,7 +194,7 @@ def main():
         lines = 0
         for _ in range(count):
             more = rng.choice([(), ("--filter", "c = 7"), ("--filter", "c is null"), ("--workers", "3")])
-            lines += table.compare(rng.randrange(1, COMMITS + 1), rng.randrange(1, COMMITS + 1), more)
+            lines += table.compare(rng.randrange(1, COMMITS + 1), rng.randrange(1, COMMITS + 1), more, rng.choice(FORMS))
     pairs, more = compare_examples(words, rng)
     print("changes: %d pairs of snapshots, %d lines, as the difference of two plans" % (count + pairs, lines + more))
 

@@ -1,24 +1,35 @@
 #!/usr/bin/env python3
-"""reachable.py PROGRAM..: random tables, and the files that `reachable` says they need.
+"""reachable.py PROGRAM..: random tables, the files that `reachable` says they need, and those that `orphans` names.
 
 PROGRAM is the built icescan, or words that run it. Each of 300 tables is made in a new folder by random appends and
 row deltas; between them manifests are rewritten, by a snapshot whose manifests have some files deleted (entries of
 status 2), and snapshots expire. What `reachable` prints has to be what this script finds by reading the metadata and
-every manifest list and manifest by itself. Of each table a manifest is then taken away, cut or named as compressed, and
-nothing may be printed. `reachable.py --tell FOLDER PREFIX METADATA` prints what the script finds. The last line counts;
-the status is 1 where something differs."""
+every manifest list and manifest by itself; so what `--only` and `--without` some of the snapshots print, which together
+have each file once. Below the folder stand files that the table needs, and others, old and young, some of which are
+named as one of these may be spelled; what `orphans` prints of them has to be what this script finds. Of each table a
+manifest is then taken away, cut or named as compressed, and nothing may be printed. Then commits are made beside
+`orphans`, 20 times, which may name none of their files. `reachable.py --tell FOLDER PREFIX METADATA [IDS]` prints what
+the script finds, without the snapshots of these ids; `--tell-only` with them what is left; `reachable.py --tell-orphans
+FOLDER PREFIX METADATA N` the files that are not needed. The last line counts; the status is 1 where something
+differs."""
 import json
 import os
 import random
 import shutil
 import struct
 import subprocess
+import stat
 import sys
 import tempfile
+import threading
+import time
+import urllib.parse
 import uuid
 
 PREFIX = "s3://warehouse/db/t"
 TABLES = 300
+RACES = 20
+OLDER_THAN_MS = 100000
 MAGIC = b"Obj\x01"
 METADATA = {
     "format-version": 2, "table-uuid": "f79c3e09-677c-4bbd-a479-3f349cb785e7", "location": PREFIX,
@@ -141,21 +152,57 @@ def escaped(path):
     return "".join("\\x%02x" % b if b <= 32 or b in (92, 127) else chr(b) for b in path.encode()).encode("latin-1")
 
 
-def reached(read, path):
-    """The lines of the files that the metadata at a path reaches."""
-    metadata, lines = json.loads(read(path)), {(b"metadata", path)}
-    lines |= {(b"metadata", old["metadata-file"]) for old in metadata.get("metadata-log") or []}
+def needed(read, path, gone=()):
+    """What the files are, with their paths, that the metadata at a path reaches without the snapshots of some ids."""
+    metadata, files = json.loads(read(path)), {(b"metadata", path)}
+    files |= {(b"metadata", old["metadata-file"]) for old in metadata.get("metadata-log") or []}
     for array in ("statistics", "partition-statistics"):
-        lines |= {(b"statistics", file["statistics-path"]) for file in metadata.get(array) or []}
+        files |= {(b"statistics", file["statistics-path"]) for file in metadata.get(array) or []
+                  if file.get("snapshot-id") not in gone}
     for snapshot in metadata.get("snapshots") or []:
-        lines.add((b"list", snapshot["manifest-list"]))
+        if snapshot["snapshot-id"] in gone:
+            continue
+        files.add((b"list", snapshot["manifest-list"]))
         for row in objects(read(snapshot["manifest-list"]))[2]:
-            lines.add((b"manifest", row["manifest_path"]))
+            files.add((b"manifest", row["manifest_path"]))
             for entry in objects(read(row["manifest_path"]))[2]:
                 if entry["status"] != 2:
                     kind = b"delete" if entry["data_file"].get("content") else b"data"
-                    lines.add((kind, entry["data_file"]["file_path"]))
-    return b"".join(sorted(kind + b" " + escaped(file) + b"\n" for kind, file in lines))
+                    files.add((kind, entry["data_file"]["file_path"]))
+    return files
+
+
+def alone(read, path, gone):
+    """The files that the snapshots of these ids alone reach."""
+    kept = {file for _, file in needed(read, path, gone)}
+    return {(kind, file) for kind, file in needed(read, path) if file not in kept}
+
+
+def text_of(files):
+    return b"".join(sorted(kind + b" " + escaped(file) + b"\n" for kind, file in files))
+
+
+def plain(path):
+    """The one spelling of all that may name the same file."""
+    path = urllib.parse.unquote_to_bytes(path.encode())
+    while b"//" in path:
+        path = path.replace(b"//", b"/")
+    return b"s3:" + path[4:] if path[:4] in (b"s3a:", b"s3n:") else path
+
+
+def strays(read, path, folder, prefix, older_than_ms):
+    """The lines of the files below the folder that are not needed."""
+    files = {file for _, file in needed(read, path)}
+    spelled, lines = {plain(file) for file in files}, []
+    for at, _, names in os.walk(folder):
+        for name in names:
+            found = os.lstat(os.path.join(at, name))
+            file = "%s/%s" % (prefix, os.path.relpath(os.path.join(at, name), folder))
+            if stat.S_ISREG(found.st_mode) and file not in files:
+                young = (time.time() - found.st_mtime) * 1000 <= older_than_ms
+                word = b"doubtful " if young or plain(file) in spelled else b"orphan "
+                lines.append((file.encode(), word + escaped(file) + b"\n"))
+    return b"".join(line for _, line in sorted(lines))
 
 
 def reader_of(folder, prefix):
@@ -197,7 +244,8 @@ class Table:
 
     def file(self, at, deletes):
         spec = self.rng.randrange(2)
-        file = {"path": "%s/data/%s file %d.parquet" % (PREFIX, "deletes" if deletes else "a", at), "format": "parquet",
+        prefix = self.rng.choice(3 * [PREFIX] + ["s3a" + PREFIX[2:], "s3n" + PREFIX[2:], PREFIX + "/"])
+        file = {"path": "%s/data/%s file %d.parquet" % (prefix, "deletes" if deletes else "a", at), "format": "parquet",
                 "spec-id": spec, "partition": [self.rng.choice([None, 1, 2])] if spec else [],
                 "record-count": 1, "file-size": 1}
         if deletes:
@@ -250,16 +298,68 @@ class Table:
                 or self.rng.randrange(2)]
         metadata["snapshots"] = keep
         if self.rng.randrange(2):
-            files = [{"snapshot-id": 1, "statistics-path": "%s/s%d.puffin" % (PREFIX, self.version)}]
+            files = [{"snapshot-id": self.rng.randrange(1, 8),
+                      "statistics-path": "%s/s%d.puffin" % (PREFIX, self.version)}]
             metadata[self.rng.choice(["statistics", "partition-statistics"])] = files
         self.put(metadata)
 
 
+    def ids(self):
+        return [snapshot["snapshot-id"] for snapshot in self.metadata()["snapshots"]]
+
+    def orphans(self, path=None):
+        return self.run("orphans", "--older-than-ms", str(OLDER_THAN_MS), path or self.path())
+
+    def lay_files(self):
+        """Files that are needed and files that are not, of which some are old."""
+        os.makedirs(os.path.join(self.folder, "data", "more"))
+        names = ["data/stray %d" % i for i in range(3)] + ["data/more/stray\n", "data/more/\u00e4"]
+        for _, file in sorted(needed(self.read, self.path())):
+            name = file.split("warehouse/db/t/", 1)[1].lstrip("/")
+            if name.startswith("data/") and self.rng.randrange(3):
+                names.append(self.rng.choice([name, name, name.replace(" ", "%20", 1), name.replace("f", "%66")]))
+        for name in names:
+            self.write(name, b"")
+        os.symlink(self.folder, os.path.join(self.folder, "data", "around"))
+        os.symlink("stray 0", os.path.join(self.folder, "data", "link"))
+        for at, _, found in os.walk(self.folder):
+            for name in found:
+                if self.rng.randrange(2):
+                    old = time.time() - 10 * OLDER_THAN_MS / 1000
+                    os.utime(os.path.join(at, name), (old, old), follow_symlinks=False)
+
+
+def answers(table):
+    """What is asked of a table, with what has to be printed."""
+    read, path = table.read, table.path()
+    yield table.run("reachable", path), text_of(needed(read, path))
+    ids = table.ids()
+    gone = table.rng.sample(ids, table.rng.randrange(1, len(ids) + 1)) if ids else []
+    if gone:
+        listed = ",".join(map(str, gone))
+        yield table.run("reachable", "--without", listed, path), text_of(needed(read, path, gone))
+        yield table.run("reachable", "--only", listed, path), text_of(alone(read, path, gone))
+    table.lay_files()
+    yield table.orphans(), strays(read, path, table.folder, PREFIX, OLDER_THAN_MS)
+
+
+def refusals(table):
+    """What is asked of a table with a manifest at fault, with the status that it ends with."""
+    ids = ",".join(map(str, table.ids()))
+    yield lambda: table.run("reachable", table.path())
+    yield lambda: table.run("reachable", "--only", ids, table.path())
+    yield table.orphans
+
+
 def wrong_with(table):
-    got, expected = table.run("reachable", table.path()), reached(table.read, table.path())
-    if (got.returncode, got.stdout, got.stderr) != (0, expected, b""):
-        return "%r\nnot\n%s" % (got, expected.decode())
-    manifests = [line.split(b" ")[1].decode() for line in expected.split(b"\n") if line.startswith(b"manifest ")]
+    for got, expected in answers(table):
+        if (got.returncode, got.stdout, got.stderr) != (0, expected, b""):
+            return "%r\nnot\n%s" % (got, expected.decode())
+    for option, status in (("--only=999", 1), ("--without=1,999", 1), ("--only=1,,2", 2), ("--without=01", 2)):
+        got = table.run("reachable", option, table.path())
+        if got.returncode != status or got.stdout or not got.stderr:
+            return "%s: %r" % (option, got)
+    manifests = [file for kind, file in sorted(needed(table.read, table.path())) if kind == b"manifest"]
     if not manifests:
         return None
     name = table.rng.choice(manifests)[len(PREFIX) + 1:]
@@ -269,34 +369,64 @@ def wrong_with(table):
         os.unlink(os.path.join(table.folder, name))
         if change is not None:
             table.write(name, change)
-        got = table.run("reachable", table.path())
         status = 3 if change is None else 1
-        if change != data and (got.returncode != status or got.stdout or not got.stderr):
-            return "a manifest is not as it was, and yet %r" % got
+        for ask in refusals(table):
+            got = ask()
+            if change != data and (got.returncode != status or got.stdout or not got.stderr):
+                return "a manifest is not as it was, and yet %r" % got
         table.write(name, data)
     return None
 
 
+def wrong_beside_commits(table):
+    """Commits go on beside `orphans`: it names the one old file, and none of theirs."""
+    table.commit()
+    path = table.path()
+    table.write("data.old", b"")
+    old = time.time() - 10 * OLDER_THAN_MS / 1000
+    os.utime(os.path.join(table.folder, "data.old"), (old, old))
+    commits = threading.Thread(target=lambda: [table.commit() for _ in range(5)])
+    commits.start()
+    wrong, goes_on = None, True
+    while goes_on:
+        goes_on = commits.is_alive()
+        got = table.orphans(path)
+        named = [line for line in got.stdout.split(b"\n") if line.startswith(b"orphan ")]
+        if got.returncode or got.stderr or named != [b"orphan %s/data.old" % PREFIX.encode()]:
+            wrong = "beside commits %r" % got
+    commits.join()
+    return wrong
+
+
+def tell(words):
+    how, folder, prefix, path = words[:4]
+    read, gone = reader_of(folder, prefix), [int(word) for word in ",".join(words[4:]).split(",") if word]
+    if how == "--tell-orphans":
+        return strays(read, path, folder, prefix, gone[0])
+    return text_of(alone(read, path, gone) if how == "--tell-only" else needed(read, path, gone))
+
+
 def main():
-    if sys.argv[1:2] == ["--tell"] and len(sys.argv) == 5:
-        sys.stdout.buffer.write(reached(reader_of(sys.argv[2], sys.argv[3]), sys.argv[4]))
+    if sys.argv[1:2] and sys.argv[1].startswith("--tell") and len(sys.argv) in (5, 6):
+        sys.stdout.buffer.write(tell(sys.argv[1:]))
         return
     if len(sys.argv) < 2 or sys.argv[1].startswith("--"):
         sys.exit(__doc__)
     different = 0
-    for seed in range(TABLES):
+    for seed in range(TABLES + RACES):
         folder = tempfile.mkdtemp()
         try:
             table = Table(sys.argv[1:], folder, random.Random(seed))
-            for _ in range(table.rng.randrange(1, 8)):
-                table.rng.choice([table.commit, table.commit, table.rewrite, table.expire])()
-            wrong = wrong_with(table)
+            if seed < TABLES:
+                for _ in range(table.rng.randrange(1, 8)):
+                    table.rng.choice([table.commit, table.commit, table.rewrite, table.expire])()
+            wrong = wrong_with(table) if seed < TABLES else wrong_beside_commits(table)
             if wrong:
                 different += 1
                 print("reachable: table %d: %s" % (seed, wrong))
         finally:
             shutil.rmtree(folder)
-    print("reachable: %d tables, %d different" % (TABLES, different))
+    print("reachable: %d tables and %d races, %d different" % (TABLES, RACES, different))
     sys.exit(1 if different else 0)
 
 

@@ -266,6 +266,11 @@ def files(cases):
     cases.add("P3 Device mem://t/table", ["show", "mem://t/table"])
     cases.add("P3 Device mem://t/table/metadata", ["plan", "mem://t/table/metadata"])
     cases.plan("P5 Workers", "table.json", table(), "--workers", "65")
+    snapshots = [{"snapshot-id": n, "parent-snapshot-id": n - 1, "sequence-number": n, "timestamp-ms": 50, "manifest-list": "mem://t/list",
+                  "summary": {"operation": "delete" if n == 3 else "append"}} for n in (2, 3, 4, 5)]
+    cases.files["snapshots.json"] = table(snapshots=snapshots)
+    cases.add("L1 NotAppended 3", ["changes", "--appends", "--from", "2", "mem://t/snapshots.json"])
+    cases.add("L2 NotAncestor", ["changes", "--appends", "--from", "5", "--to", "4", "mem://t/snapshots.json"])
     cases.files["empty/metadata/notes.txt"] = b""
     cases.files["twice/metadata/00002-a.metadata.json"] = b""
     cases.files["twice/metadata/v2.metadata.json"] = b""

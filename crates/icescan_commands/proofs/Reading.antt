@@ -7,10 +7,12 @@ use Rattle.ice_meta.specs.declared.metadata.Target.{Target}
 use Rattle.icescan_audit.proofs.AnyFiles.{more_audits}
 use Rattle.icescan_changes.proofs.MoreGiven.{more_changes}
 use Rattle.icescan_explain.proofs.MoreGiven.{more_explanations}
-use Rattle.icescan_reachable.proofs.MoreGiven.{more_lines}
-use Rattle.icescan_reachable.specs.Given.{WroteReached}
+use Rattle.icescan_forms.specs.declared.part.Part.{Part}
+use Rattle.icescan_parts.proofs.MoreKept.{more_part}
+use Rattle.icescan_parts.specs.Kept.{WrotePart}
 use Rattle.icescan_requests.proofs.GivenPlans.{more_plans}
 use Rattle.icescan_text.specs.declared.fault.RunFault.{RunFault}
+use Rattle.icescan_text.specs.declared.request.ChangesRequest.{ChangesRequest}
 use Rattle.icescan_text.specs.declared.request.Request.{Request}
 use Rattle.icescan_forms.specs.declared.format.Format.{Format}
 use Rattle.icescan_forms.specs.declared.format.Format.TheVariants as format
@@ -89,12 +91,12 @@ explain_more gives more wider form path request o o' (metadata, read, (x, is, wr
 )
 
 changes_more : (gives more : Giving) → ((path : List ℕ) (found : Option (List ℕ)) → gives path found → more path found)
-    → (path : List ℕ) (target : Target) (request : Request) (o o' : Option (List ℕ))
-    → WroteChanged gives path target request o o' → WroteChanged more path target request o o'
-changes_more gives more wider path target request o o' (metadata, read, (text, is, wrote)) = (
+    → (form : Format) (path : List ℕ) (request : ChangesRequest) (o o' : Option (List ℕ))
+    → WroteChanged form gives path request o o' → WroteChanged form more path request o o'
+changes_more gives more wider form path request o o' (metadata, read, (text, is, wrote)) = (
   metadata,
   wider path _ read,
-  (text, more_changes gives more wider metadata target request text is, wrote),
+  (text, more_changes gives more wider form metadata request text is, wrote),
 )
 
 module _ (below : GivingBelow) where
@@ -122,12 +124,13 @@ module _ (below : GivingBelow) where
   columns_below (source.Folder place) gives wider form path target result o o' wrote =
       on_ok_weaker result (λ w. (w.0, wider path _ w.1, w.2)) wrote
 
-  pub reachable_below : (from : Source) (gives : Giving) → AreGivenBelow below from gives → (path : List ℕ)
-      (result : Result Unit RunFault) (o o' : Option (List ℕ)) → OnOk result (WroteReached gives path o o')
-      → OnOk result (WroteOfGiven below (command.Reachable from path) 0 o o')
-  reachable_below source.Bundle gives wider path result o o' wrote = any_ok result
-  reachable_below (source.Folder place) gives wider path result o o' wrote =
-      on_ok_weaker result (λ w. (w.0, more_lines gives (below place.folder place.prefix) wider path w.0 w.1, w.2)) wrote
+  pub reachable_below : (from : Source) (gives : Giving) → AreGivenBelow below from gives → (part : Part)
+      (path : List ℕ) (result : Result Unit RunFault) (o o' : Option (List ℕ))
+      → OnOk result (WrotePart gives part path o o')
+      → OnOk result (WroteOfGiven below (command.Reachable from part path) 0 o o')
+  reachable_below source.Bundle gives wider part path result o o' wrote = any_ok result
+  reachable_below (source.Folder place) gives wider part path result o o' wrote =
+      on_ok_weaker result (more_part gives (below place.folder place.prefix) wider part path o o') wrote
 
   pub audit_below : (from : Source) (gives : Giving) → AreGivenBelow below from gives → (form : Format)
       (path : List ℕ) (target : Target) (workers : ℕ) (result : Result ℕ RunFault) (o o' : Option (List ℕ))
@@ -146,10 +149,10 @@ module _ (below : GivingBelow) where
   explain_below (source.Folder place) gives wider form path request workers result o o' wrote =
       on_ok_weaker result (explain_more gives (below place.folder place.prefix) wider form path request o o') wrote
 
-  pub changes_below : (from : Source) (gives : Giving) → AreGivenBelow below from gives → (path : List ℕ)
-      (target : Target) (request : Request) (workers : ℕ) (result : Result Unit RunFault) (o o' : Option (List ℕ))
-      → OnOk result (WroteChanged gives path target request o o')
-      → OnOk result (WroteOfGiven below (command.Changes from target request workers path) 0 o o')
-  changes_below source.Bundle gives wider path target request workers result o o' wrote = any_ok result
-  changes_below (source.Folder place) gives wider path target request workers result o o' wrote =
-      on_ok_weaker result (changes_more gives (below place.folder place.prefix) wider path target request o o') wrote
+  pub changes_below : (from : Source) (gives : Giving) → AreGivenBelow below from gives → (form : Format)
+      (path : List ℕ) (request : ChangesRequest) (workers : ℕ) (result : Result Unit RunFault)
+      (o o' : Option (List ℕ)) → OnOk result (WroteChanged form gives path request o o')
+      → OnOk result (WroteOfGiven below (command.Changes from request form workers path) 0 o o')
+  changes_below source.Bundle gives wider form path request workers result o o' wrote = any_ok result
+  changes_below (source.Folder place) gives wider form path request workers result o o' wrote =
+      on_ok_weaker result (changes_more gives (below place.folder place.prefix) wider form path request o o') wrote

@@ -8,10 +8,12 @@ use Rattle.icescan_changes.specs.Answers.{WroteChangesOfGiven}
 use Rattle.icescan_columns.specs.Columns.{columns_json_of, columns_of, shown_json_of}
 use Rattle.icescan_explain.specs.JsonLines.{WroteAnExplanationAs}
 use Rattle.icescan_json.specs.JsonAnswers.{IsTypedListOfGiven, IsTypedOfGivenAt, WroteJsonThat}
-use Rattle.icescan_reachable.specs.Given.{WroteReached}
+use Rattle.icescan_orphans.specs.Written.{WroteStrays}
+use Rattle.icescan_parts.specs.Kept.{WrotePart}
 use Rattle.icescan_requests.specs.GivenPlans.{IsListPlanOfGiven, IsPlanOfGivenAt, WrotePlanThat}
 use Rattle.icescan_requests.specs.Shows.{WroteText, show_of}
 use Rattle.icescan_text.specs.declared.fault.RunFault.{RunFault}
+use Rattle.icescan_text.specs.declared.request.ChangesRequest.{ChangesRequest}
 use Rattle.icescan_text.specs.declared.request.Request.{Request}
 use Rattle.icescan_forms.specs.declared.format.Format.{Format}
 use Rattle.icescan_forms.specs.declared.format.Format.TheVariants as format
@@ -75,10 +77,10 @@ abbrev pub WroteExplained : Format → Giving → List ℕ → Request → Optio
 WroteExplained form gives path request output output' = (metadata : List ℕ) × gives path (Some metadata)
     × WroteAnExplanationAs form gives metadata request output output'
 
--- the changes from a snapshot to what is asked of the table whose metadata is at a path
-abbrev pub WroteChanged : Giving → List ℕ → Target → Request → Option (List ℕ) → Option (List ℕ) → Type 0
-WroteChanged gives path from request output output' = (metadata : List ℕ) × gives path (Some metadata)
-    × WroteChangesOfGiven gives metadata from request output output'
+-- the changes that are asked of the table whose metadata is at a path, in a form
+abbrev pub WroteChanged : Format → Giving → List ℕ → ChangesRequest → Option (List ℕ) → Option (List ℕ) → Type 0
+WroteChanged form gives path request output output' = (metadata : List ℕ) × gives path (Some metadata)
+    × WroteChangesOfGiven form gives metadata request output output'
 
 -- What a command wrote that ended without a fault and told of so many faults of a table: over a folder, of bytes that
 -- reads below it gave. Of a commit `IsStored` and `IsStoredOfGiven` say more.
@@ -95,10 +97,12 @@ WroteOfGiven below (command.Explain (source.Folder place) request form workers p
     WroteExplained form (given_at below place) path request output output'
 WroteOfGiven below (command.Columns (source.Folder place) target form path) count output output' =
     WroteColumns form (given_at below place) path target output output'
-WroteOfGiven below (command.Changes (source.Folder place) from request workers path) count output output' =
-    WroteChanged (given_at below place) path from request output output'
-WroteOfGiven below (command.Reachable (source.Folder place) path) count output output' =
-    WroteReached (given_at below place) path output output'
+WroteOfGiven below (command.Changes (source.Folder place) request form workers path) count output output' =
+    WroteChanged form (given_at below place) path request output output'
+WroteOfGiven below (command.Reachable (source.Folder place) part path) count output output' =
+    WrotePart (given_at below place) part path output output'
+WroteOfGiven below (command.Orphans place older path) count output output' =
+    WroteStrays (given_at below place) older path output output'
 WroteOfGiven below _ count output output' = Unit {0}
 
 -- the same of words that were read

@@ -42,6 +42,7 @@ use Rattle.icescan_words.specs.declared.command.Command.{Command}
 use Rattle.icescan_words.specs.declared.command.Command.TheVariants as command
 use Rattle.icescan_text.specs.declared.fault.RunFault.{RunFault}
 use Rattle.icescan_text.specs.declared.fault.RunFault.TheVariants as run
+use Rattle.icescan_text.specs.declared.request.ChangesRequest.{ChangesRequest}
 use Rattle.icescan_text.specs.declared.request.CommitRequest.{CommitRequest}
 use Rattle.icescan_text.specs.declared.request.Request.{Request}
 
@@ -103,9 +104,9 @@ audit_in form world path target workers = as_answer (as_audit form (audit_at wor
 abbrev pub explain_in : Format → World → List ℕ → Request → ℕ → Result Answer RunFault
 explain_in form world path request workers = as_answer (as_explanation form (explained_at world path request workers))
 
--- the text of the changes from a snapshot to what is asked
-abbrev pub changes_told : World → List ℕ → Target → Request → ℕ → Result Answer RunFault
-changes_told world path from request workers = as_answer (changes_at world path from request workers)
+-- the changes that are asked for, in a form
+abbrev pub changes_in : Format → World → List ℕ → ChangesRequest → ℕ → Result Answer RunFault
+changes_in form world path request workers = as_answer (changes_at form world path request workers)
 
 -- the text of a commit to a table in a bundle, where it is told; of a commit to a folder `commitment` says more
 abbrev pub commit_told : Source → CommitRequest → List ℕ → Option (Result Answer RunFault)
@@ -126,10 +127,11 @@ answer_to below (command.Audit source target form workers path) input =
     over below source (λ world. audit_in form world path target workers) input
 answer_to below (command.Explain source request form workers path) input =
     over below source (λ world. explain_in form world path request workers) input
-answer_to below (command.Changes source from request workers path) input =
-    over below source (λ world. changes_told world path from request workers) input
+answer_to below (command.Changes source request form workers path) input =
+    over below source (λ world. changes_in form world path request workers) input
 answer_to below (command.Locate folder form) input = None
-answer_to below (command.Reachable source path) input = None
+answer_to below (command.Reachable source part path) input = None
+answer_to below (command.Orphans place older path) input = None
 answer_to below (command.Drill asked) input = None
 answer_to below (command.Text text) input = Some (Ok (plain text))
 
@@ -153,10 +155,11 @@ failing_of below may_fail (command.Audit source target form workers path) write 
     failing_over below may_fail source (λ world. audit_reads_at world path target) write
 failing_of below may_fail (command.Explain source request form workers path) write =
     failing_over below may_fail source (λ world. reads_at world path request) write
-failing_of below may_fail (command.Changes source from request workers path) write =
-    failing_over below may_fail source (λ world. changes_reads_at world path from request) write
+failing_of below may_fail (command.Changes source request form workers path) write =
+    failing_over below may_fail source (λ world. changes_reads_at world path request) write
 failing_of below may_fail (command.Locate folder form) write = failing_unread write
-failing_of below may_fail (command.Reachable source path) write = failing_unread write
+failing_of below may_fail (command.Reachable source part path) write = failing_unread write
+failing_of below may_fail (command.Orphans place older path) write = failing_unread write
 failing_of below may_fail (command.Drill asked) write = failing_unread write
 failing_of below may_fail (command.Text text) write = failing_unread write
 

@@ -17,23 +17,24 @@ ghost use Rattle.icescan_words.specs.declared.command.Command.{Command};
 
 use crate::commit_lines::commit_lines;
 use crate::forms::{
-    write_audit, write_columns, write_explained, write_list_plan, write_plan, write_shown,
+    write_audit, write_changes, write_columns, write_explained, write_list_plan, write_plan,
+    write_shown,
 };
 use crate::system::System;
 use crate::table_files::{open_files, watched_files};
 use contract_words::Text;
 use ice_meta::Target;
-use icescan_changes::changes_file;
 use icescan_commits::{commit_to, prepare_commit};
 use icescan_drill::{Watch, run_drill};
 use icescan_files::{Bundle, Folders, Stores, read_bundle};
-use icescan_forms::Format;
+use icescan_forms::{Format, Part};
 use icescan_locate::{locate_all, locate_folder};
+use icescan_orphans::{AgedFolders, Search, orphans_file};
+use icescan_parts::part_file;
 use icescan_print::{Sink, write_all};
 use icescan_progress::Progress;
-use icescan_reachable::reachable_file;
-use icescan_text::{CommitRequest, Drill, Request, RunFault};
-use icescan_words::{Command, Lists, Located, Source};
+use icescan_text::{ChangesRequest, CommitRequest, Drill, Request, RunFault};
+use icescan_words::{Command, Lists, Located, Place, Source};
 use std::alloc::Global;
 use std::io::Read;
 use std::sync::Wait;
@@ -167,20 +168,45 @@ pub fn columns<H, S: Folders, P: Progress, R: Read, W: Sink>(
     write_columns(system.alloc, &files, path, target, format, output)
 }
 
-/// Writes the files that a table reaches.
+/// Writes this part of the files that a table reaches.
 pub fn reachable<H, S: Folders, P: Progress, R: Read, W: Sink>(
     system: &System<'_, H, S, P>,
     table: &TableAt<'_>,
+    part: &Part,
     input: &mut R,
     output: &mut W,
 ) -> Result<(), RunFault>
     requires { P.may_be_told system.now.progress.now ≡ true }
     ensures ran { Ran None (failing_unread (W.may_fail output.old)) result (W.taken output.old) (W.taken output.new) }
     ensures given { OnOk result (WroteOfGiven (S.gives system.now.folders.now)
-        (Command.Reachable table.now.source.now table.now.path.now) 0 (W.taken output.old) (W.taken output.new)) }
+        (Command.Reachable table.now.source.now part.now table.now.path.now) 0 (W.taken output.old)
+        (W.taken output.new)) }
 {
     let files = open_files(system, table.source, input)?;
-    reachable_file(system.alloc, &files, table.path.as_str(), output)
+    part_file(system.alloc, &files, part, table.path.as_str(), output)
+}
+
+/// Writes the files below a folder, older than so many milliseconds, that a table does not reach.
+pub fn orphans<H: AgedFolders, S: Folders, P: Progress, W: Sink>(
+    system: &System<'_, H, S, P>,
+    place: &Place,
+    older_than_ms: u64,
+    path: &Text,
+    output: &mut W,
+) -> Result<(), RunFault>
+    requires { P.may_be_told system.now.progress.now ≡ true }
+    ensures ran { Ran None (failing_unread (W.may_fail output.old)) result (W.taken output.old) (W.taken output.new) }
+    ensures given { OnOk result (WroteOfGiven (S.gives system.now.folders.now)
+        (Command.Orphans place.now older_than_ms path.now) 0 (W.taken output.old) (W.taken output.new)) }
+{
+    let files = watched_files(system, place);
+    let table = path.as_str();
+    let search = Search {
+        folder: place.folder.as_str(),
+        prefix: place.prefix.as_str(),
+        older_than_ms,
+    };
+    orphans_file(system.alloc, system.host, &files, &search, table, output)
 }
 
 /// Writes the audit of a snapshot of a table, in a form and by so many workers, and gives the number of findings that are
@@ -239,12 +265,12 @@ pub fn explain<H, S: Folders, P: Progress, R: Read, W: Sink>(
     write_explained(system.alloc, &files, path, request, format, workers, output)
 }
 
-/// Writes the changes from a snapshot of a table to the plan that is asked of it, by so many workers.
+/// Writes the changes that are asked of a table, in a form and by so many workers.
 pub fn changes<H: Threads + Sync, S: Folders + Sync, P: Progress + Sync, R: Read, W: Sink>(
     system: &System<'_, H, S, P>,
     table: &TableAt<'_>,
-    from: &Target,
-    request: &Request,
+    request: &ChangesRequest,
+    format: Format,
     workers: usize,
     input: &mut R,
     output: &mut W,
@@ -252,25 +278,17 @@ pub fn changes<H: Threads + Sync, S: Folders + Sync, P: Progress + Sync, R: Read
     requires { P.may_be_told system.now.progress.now ≡ true }
     ensures ran { (text : List ℕ) × IsInput (R.remaining input.old) text ×
         Ran (answer_to (S.below system.now.folders.now)
-        (Command.Changes table.now.source.now from.now request.now workers table.now.path.now) text)
+        (Command.Changes table.now.source.now request.now format workers table.now.path.now) text)
         (failing_of (S.below system.now.folders.now) (S.may_fail system.now.folders.now)
-        (Command.Changes table.now.source.now from.now request.now workers table.now.path.now) (W.may_fail output.old))
+        (Command.Changes table.now.source.now request.now format workers table.now.path.now) (W.may_fail output.old))
         result (W.taken output.old) (W.taken output.new) }
     ensures given { OnOk result (WroteOfGiven (S.gives system.now.folders.now)
-        (Command.Changes table.now.source.now from.now request.now workers table.now.path.now) 0 (W.taken output.old)
+        (Command.Changes table.now.source.now request.now format workers table.now.path.now) 0 (W.taken output.old)
         (W.taken output.new)) }
 {
     let files = open_files(system, table.source, input)?;
-    changes_file(
-        system.host,
-        system.alloc,
-        &files,
-        table.path.as_str(),
-        from,
-        request,
-        workers,
-        output,
-    )
+    let path = table.path.as_str();
+    write_changes(system, &files, path, request, format, workers, output)
 }
 
 /// Writes the files of a commit to a table in a bundle, as lines of a bundle.

@@ -15,6 +15,7 @@ use icescan_commits::prepare_commit;
 use icescan_drill::Watch;
 use icescan_files::{Below, Folders, Stores};
 use icescan_hints::{Case, Looks, place_of, put_hint, put_notes, put_reading, put_words_hint};
+use icescan_orphans::AgedFolders;
 use icescan_print::Sink;
 use icescan_progress::{Progress, Silent, Terminals, shows_hints, shows_progress};
 use icescan_text::{RunFault, report};
@@ -86,7 +87,7 @@ fn run_command<H, S: Folders + Sync, P: Progress + Sync, K: Stores, R: Read, W: 
     errors: &mut E,
 ) -> u8
 where
-    H: Threads + Wait + Watch + Looks + Sync,
+    H: Threads + Wait + Watch + Looks + AgedFolders + Sync,
     requires { P.may_be_told system.now.progress.now ≡ true }
     ensures { RanAsWithHint (record {
       below = S.below system.now.folders.now;
@@ -133,7 +134,7 @@ fn run_explained<H, S: Folders + Sync, P: Progress + Sync, K: Stores, R: Read, W
     errors: &mut E,
 ) -> u8
 where
-    H: Threads + Wait + Watch + Looks + Sync,
+    H: Threads + Wait + Watch + Looks + AgedFolders + Sync,
     requires { P.may_be_told system.now.progress.now ≡ true }
     ensures { RanWithHint (record {
       below = S.below system.now.folders.now;
@@ -187,7 +188,7 @@ fn run_shown<H, S: Folders + Sync, P: Progress + Sync, K: Stores, R: Read, W: Si
     errors: &mut E,
 ) -> u8
 where
-    H: Threads + Wait + Watch + Looks + Sync,
+    H: Threads + Wait + Watch + Looks + AgedFolders + Sync,
     requires { shows_progress terminals.errors (map string_bytes words.now) ≡ true →
         P.may_be_told system.now.progress.now ≡ true }
     ensures { RanWithHint (record {
@@ -242,7 +243,7 @@ fn run_help<H, S: Folders + Sync, K: Stores, R: Read, W: Sink, E: Sink>(
     errors: &mut E,
 ) -> u8
 where
-    H: Threads + Wait + Watch + Sync,
+    H: Threads + Wait + Watch + AgedFolders + Sync,
     ensures { RanWithoutHint (record {
       below = S.below system.now.folders.now;
       gives = S.gives system.now.folders.now;
@@ -285,7 +286,7 @@ pub fn run_program<H, S: Folders + Sync, P: Progress + Sync, K: Stores, R: Read,
     errors: &mut E,
 ) -> u8
 where
-    H: Threads + Wait + Watch + Looks + Sync,
+    H: Threads + Wait + Watch + Looks + AgedFolders + Sync,
     // No other run tells `progress` of reads.
     requires { shows_progress terminals.errors (map string_bytes words.now) ≡ true →
         P.may_be_told system.now.progress.now ≡ true }

@@ -3,12 +3,13 @@
 ghost use Rattle.std.specs.Prelude.{◌≡◌, ◌≢◌, ◌∷◌, [], Some, IfErr, IfOk, IsErrOf, OnOk};
 ghost use Rattle.icescan_audit.specs.Audits.{audit_at, audit_reads_at};
 ghost use Rattle.icescan_audit.specs.JsonLines.{WroteAuditAs, WroteAuditFrontAs};
+ghost use Rattle.icescan_changes.specs.Answers.{changes_reads_at};
 ghost use Rattle.icescan_text.specs.Reads.{MayEnd};
 ghost use Rattle.icescan_commands.specs.Answers.{GivesAnswer};
 ghost use Rattle.icescan_commands.specs.Reading.{WroteAudited, WroteColumns, WroteExplained, WroteListPlan};
-ghost use Rattle.icescan_commands.specs.Reading.{WrotePlanAt};
+ghost use Rattle.icescan_commands.specs.Reading.{WroteChanged, WrotePlanAt};
 ghost use Rattle.icescan_commands.specs.Reading.{WroteShown};
-ghost use Rattle.icescan_commands.specs.Runs.{columns_told, explain_in, list_plan_in, plan_in, show_in};
+ghost use Rattle.icescan_commands.specs.Runs.{changes_in, columns_told, explain_in, list_plan_in, plan_in, show_in};
 ghost use Rattle.ice_desk.specs.Worlds.{EndsAt};
 ghost use Rattle.icescan_requests.specs.ListPlans.{list_reads};
 ghost use Rattle.icescan_requests.specs.Plans.{OnRefusal, reads_at};
@@ -18,13 +19,14 @@ use crate::system::System;
 use ice_desk::Files;
 use ice_meta::Target;
 use icescan_audit::{audit_file, audit_file_json};
+use icescan_changes::{changes_file, changes_file_json};
 use icescan_columns::{columns_file, columns_file_json, show_file_json};
 use icescan_explain::{explain_file, explain_file_json};
 use icescan_forms::Format;
 use icescan_json::{plan_file_json, run_list_plan_json};
 use icescan_print::Sink;
 use icescan_requests::{plan_file, run_list_plan, show_file};
-use icescan_text::{Request, RunFault};
+use icescan_text::{ChangesRequest, Request, RunFault};
 use std::alloc::Global;
 use std::thread::Threads;
 
@@ -148,6 +150,34 @@ pub fn write_explained<F: Files, W: Sink>(
     match format {
         Format::Text => explain_file(alloc, files, path, request, workers, output),
         Format::Json => explain_file_json(alloc, files, path, request, workers, output),
+    }
+}
+
+/// Writes the changes that are asked of the table whose metadata is at a path, by so many workers.
+pub fn write_changes<H: Threads + Sync, S, P, F: Files + Sync, W: Sink>(
+    system: &System<'_, H, S, P>,
+    files: &F,
+    path: &str,
+    request: &ChangesRequest,
+    format: Format,
+    workers: usize,
+    output: &mut W,
+) -> Result<(), RunFault>
+    ensures answers { (world : World) → F.world files.now ≡ Some world →
+        GivesAnswer (changes_in format world path.now request.now workers)
+        (EndsAt world (F.may_fail files.now) (changes_reads_at world path.now request.now))
+        (W.may_fail output.old) result (W.taken output.old) (W.taken output.new) }
+    ensures refusal { OnRefusal (F.world files.now) (F.may_fail files.now) (W.may_fail output.old) result
+        (W.taken output.old) (W.taken output.new) }
+    // Over all files: what is written is made of bytes that reads gave.
+    ensures given { OnOk result (WroteChanged format (F.gives files.now) path.now request.now (W.taken output.old)
+        (W.taken output.new)) }
+{
+    let host = system.host;
+    let alloc = system.alloc;
+    match format {
+        Format::Text => changes_file(host, alloc, files, path, request, workers, output),
+        Format::Json => changes_file_json(host, alloc, files, path, request, workers, output),
     }
 }
 

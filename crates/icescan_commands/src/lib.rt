@@ -18,9 +18,11 @@ pub use icescan_files::{
     Bundle, CommitFolder, Disk, DiskFolder, Folder, Folders, HostFolders, HostStores, Store,
     StoreFault, Stores, file_name, put_files, read_all,
 };
-pub use icescan_forms::Format;
+pub use icescan_forms::{Format, Part};
 pub use icescan_hints::{Kind, Looks};
 pub use icescan_json::{plan_file_json, run_list_plan_json};
+pub use icescan_orphans::{AgedFolders, Search, orphans_file};
+pub use icescan_parts::part_file;
 pub use icescan_progress::{Cleared, Progress, ProgressLine, Screen, Silent, Terminals};
 pub use icescan_requests::{
     Selection, plan_file, plans_of_true_summaries, run_list_plan, run_plan, run_plan_with,

@@ -11,12 +11,13 @@ ghost use Rattle.icescan_words.specs.declared.command.Command.{Command};
 ghost use Rattle.icescan_text.specs.declared.fault.RunFault.{RunFault};
 
 use crate::arms::{
-    TableAt, audit, changes, columns, commit, drill, explain, list_plan, locate, plan, reachable,
-    show, tell,
+    TableAt, audit, changes, columns, commit, drill, explain, list_plan, locate, orphans, plan,
+    reachable, show, tell,
 };
 use crate::system::System;
 use icescan_drill::Watch;
 use icescan_files::{Folders, Stores};
+use icescan_orphans::AgedFolders;
 use icescan_print::Sink;
 use icescan_progress::Progress;
 use icescan_text::{RunFault, report};
@@ -45,7 +46,7 @@ pub fn run_asked<H, S: Folders + Sync, P: Progress + Sync, K: Stores, R: Read, W
     output: &mut W,
 ) -> Result<usize, RunFault>
 where
-    H: Threads + Wait + Watch + Sync,
+    H: Threads + Wait + Watch + AgedFolders + Sync,
     requires { P.may_be_told system.now.progress.now ≡ true }
     ensures ran { (text : List ℕ) × IsInput (R.remaining input.old) text ×
         Ran (answer_to (S.below system.now.folders.now) asked.now text)
@@ -88,13 +89,16 @@ where
             let table = &TableAt { source, path };
             no_findings(explain(system, table, request, *format, *workers, input, output))
         }
-        Command::Changes(source, from, request, workers, path) => {
+        Command::Changes(source, request, format, workers, path) => {
             let table = &TableAt { source, path };
-            no_findings(changes(system, table, from, request, *workers, input, output))
+            no_findings(changes(system, table, request, *format, *workers, input, output))
         }
-        Command::Reachable(source, path) => {
+        Command::Reachable(source, part, path) => {
             let table = &TableAt { source, path };
-            no_findings(reachable(system, table, input, output))
+            no_findings(reachable(system, table, part, input, output))
+        }
+        Command::Orphans(place, older_than_ms, path) => {
+            no_findings(orphans(system, place, *older_than_ms, path, output))
         }
         Command::Locate(folder, located) => {
             no_findings(locate(system, folder, *located, output))
@@ -113,7 +117,7 @@ fn run<H, S: Folders + Sync, P: Progress + Sync, K: Stores, R: Read, W: Sink>(
     output: &mut W,
 ) -> Result<usize, RunFault>
 where
-    H: Threads + Wait + Watch + Sync,
+    H: Threads + Wait + Watch + AgedFolders + Sync,
     requires { P.may_be_told system.now.progress.now ≡ true }
     ensures { (asked : Result Command RunFault) × ReadAs (map string_bytes words.now) asked ×
         OnOk result (IsOfDrill asked (W.taken output.old) (W.taken output.new)) ×
@@ -154,7 +158,7 @@ pub fn run_words<H, S: Folders + Sync, P: Progress + Sync, K: Stores, R: Read, W
     errors: &mut E,
 ) -> u8
 where
-    H: Threads + Wait + Watch + Sync,
+    H: Threads + Wait + Watch + AgedFolders + Sync,
     requires { P.may_be_told system.now.progress.now ≡ true }
     // The words were read as one of the commands, or they were refused; no words, and `list-plan --bundle`, were read
     // as the plan of a bundle's first file. For some text, which is all that standard input had left where that is

@@ -271,6 +271,7 @@ putting_refuses (run.Finish m) of = absurd of
 putting_refuses (run.Filter m) of = absurd of
 putting_refuses (run.Drill m) of = absurd of
 putting_refuses (run.Locate m) of = absurd of
+putting_refuses (run.Lineage m) of = absurd of
 putting_refuses run.Workers of = absurd of
 
 -- a refusal of preparing ends the commit
@@ -294,6 +295,7 @@ prepare_refuses read f out files files' store sink (run.Filter m) of h = absurd 
 prepare_refuses read f out files files' store sink (run.Conflict path) of h = absurd of
 prepare_refuses read f out files files' store sink (run.Drill m) of h = absurd of
 prepare_refuses read f out files files' store sink (run.Locate m) of h = absurd of
+prepare_refuses read f out files files' store sink (run.Lineage m) of h = absurd of
 prepare_refuses read f out files files' store sink run.Workers of h = absurd of
 
 -- what was not put ends it too
@@ -317,4 +319,5 @@ put_refuses read f out files files' store sink (run.Change m) c is h = absurd h
 put_refuses read f out files files' store sink (run.Prepare m) c is h = absurd h
 put_refuses read f out files files' store sink (run.Drill m) c is h = absurd h
 put_refuses read f out files files' store sink (run.Locate m) c is h = absurd h
+put_refuses read f out files files' store sink (run.Lineage m) c is h = absurd h
 put_refuses read f out files files' store sink run.Workers c is h = absurd h

@@ -116,7 +116,7 @@ pub fn prepare_commit<F: Files>(
 
 /// Puts the files of a commit in a store, and then the metadata that names them. The refusal is `Conflict` where
 /// something stands at the metadata's path, `Write` where a file can't be put, or `Memory`; then a front of the files
-/// was put.
+/// was put. Where the metadata's path has no place in the store, none was.
 pub fn put_commit<S: Store>(
     alloc: Global,
     store: &mut S,
@@ -146,6 +146,9 @@ pub fn put_commit<S: Store>(
 {
     let place = out.copy(alloc)?;
     let metadata = prepared.version().metadata().write(alloc)?;
+    if store.has_no_place(out.as_str()) {
+        return Err(RunFault::Write);
+    }
     match put_files(alloc, store, prepared.files()) {
         Ok(()) => {}
         Err(StoreFault::Memory) => return Err(RunFault::Memory),

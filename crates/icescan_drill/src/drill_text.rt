@@ -1,9 +1,10 @@
 //! The drill: many commits at once to one table in memory.
 
-ghost use Rattle.std.specs.Prelude.{◌≡◌, ◌≢◌, ◌⊎◌, ◌*◌, length, sum_by, IfErr, OnOk, IsErrOf};
+ghost use Rattle.std.specs.Prelude.{◌≡◌, ◌≢◌, ◌*◌, length, sum_by, IfErr, OnOk, IsErrOf};
 ghost use Rattle.icescan_drill.specs.Drills.{EachSawItsFiles, WroteDrill, WroteDrillFront, drill_text};
 ghost use Rattle.icescan_print.specs.PlanTexts.{deletes_of};
-ghost use Rattle.icescan_print.specs.Written.{Appends, AppendsFront, Sent};
+ghost use Rattle.icescan_print.specs.Written.{Sent};
+ghost use Rattle.icescan_text.specs.Writes.{WroteOrRefused};
 
 use crate::drilled_table::plan_version;
 use crate::drilling::drill_table;
@@ -39,7 +40,7 @@ fn put_drill<S: Sink>(
     put_totals(page, sink, lines, deletes)
 }
 
-/// Writes the text of a drill and nothing else. It refuses for want of memory, and then nothing was written, or where a
+/// Writes the text of a drill and nothing else. It refuses when out of memory, and then nothing was written, or where a
 /// write fails, and then a front of the text was.
 fn write_drill<S: Sink>(
     alloc: Global,
@@ -48,12 +49,7 @@ fn write_drill<S: Sink>(
     lines: &Lines<'_>,
     sink: &mut S,
 ) -> Result<(), RunFault>
-    ensures all { OnOk result (Appends (S.taken sink.old) (S.taken sink.new) (drill_text commits sequence lines.now)) }
-    ensures causes { IfErr result (λ e. (e ≡ RunFault.Memory) ⊎ (e ≡ RunFault.Write)) }
-    ensures nothing { IsErrOf result RunFault.Memory → S.taken sink.new ≡ S.taken sink.old }
-    ensures front { IsErrOf result RunFault.Write →
-        AppendsFront (S.taken sink.old) (S.taken sink.new) (drill_text commits sequence lines.now) }
-    ensures cause { IsErrOf result RunFault.Write → S.may_fail sink.old }
+    ensures { WroteOrRefused S.taken S.may_fail sink.old result sink.new (drill_text commits sequence lines.now) }
 {
     let mut page = Page::new(alloc)?;
     let deletes = count_deletes(lines);

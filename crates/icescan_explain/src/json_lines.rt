@@ -1,12 +1,13 @@
 //! An explanation as lines of JSON, an object each.
 
-ghost use Rattle.std.specs.Prelude.{◌≡◌, ◌⊎◌, List, IfErr, IsErrOf, OnOk};
+ghost use Rattle.std.specs.Prelude.{◌≡◌, List};
 ghost use Rattle.std.specs.List.{flat_map};
 ghost use Rattle.icescan_explain.specs.Applying.{CountsOf};
 ghost use Rattle.icescan_explain.specs.JsonLines.{applies_json, by_json, explanation_objects, name_json, subject_name};
 ghost use Rattle.icescan_explain.specs.JsonLines.{totals_json, totals_object, totals_objects, verdict_object};
 ghost use Rattle.icescan_forms.specs.Objects.{object_line, text_if, value_json};
-ghost use Rattle.icescan_print.specs.Written.{Appends, AppendsFront, Sent};
+ghost use Rattle.icescan_print.specs.Written.{Sent};
+ghost use Rattle.icescan_text.specs.Writes.{WroteOrRefused};
 ghost use Rattle.ice_state.specs.Lines.{OwnedLine};
 
 use crate::applied::Applied;
@@ -179,12 +180,7 @@ pub fn write_explanation_objects<S: Sink>(
     explanation: &Explanation,
     sink: &mut S,
 ) -> Result<(), RunFault>
-    ensures all { OnOk result (Appends (S.taken sink.old) (S.taken sink.new) (explanation_objects explanation.now)) }
-    ensures causes { IfErr result (λ e. (e ≡ RunFault.Memory) ⊎ (e ≡ RunFault.Write)) }
-    ensures nothing { IsErrOf result RunFault.Memory → S.taken sink.new ≡ S.taken sink.old }
-    ensures front { IsErrOf result RunFault.Write →
-        AppendsFront (S.taken sink.old) (S.taken sink.new) (explanation_objects explanation.now) }
-    ensures cause { IsErrOf result RunFault.Write → S.may_fail sink.old }
+    ensures { WroteOrRefused S.taken S.may_fail sink.old result sink.new (explanation_objects explanation.now) }
 {
     let applied = Applied::of(alloc, &explanation.plan.lines())?;
     let mut page = Page::new(alloc)?;

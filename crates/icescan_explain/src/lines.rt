@@ -1,13 +1,14 @@
 //! The text of an explanation.
 
-ghost use Rattle.std.specs.Prelude.{◌≡◌, ◌⊎◌, ◌++◌, List, IfErr, IsErrOf, OnOk, IfOk};
+ghost use Rattle.std.specs.Prelude.{◌≡◌, ◌++◌, List, OnOk, IfOk};
 ghost use Rattle.std.specs.List.{flat_map};
 ghost use Rattle.icescan_explain.specs.Applying.{CountsOf};
 ghost use Rattle.icescan_explain.specs.Texts.{data_left_out, data_totals, delete_totals, explanation_text};
 ghost use Rattle.icescan_explain.specs.Texts.{fate_text, kept_text};
 ghost use Rattle.icescan_explain.specs.Texts.{left_out_text, manifest_totals, partition_word, subject_word};
 ghost use Rattle.icescan_explain.specs.Texts.{totals_text, verdict_text};
-ghost use Rattle.icescan_print.specs.Written.{Appends, AppendsFront, Sent};
+ghost use Rattle.icescan_print.specs.Written.{Sent};
+ghost use Rattle.icescan_text.specs.Writes.{WroteOrRefused};
 ghost use Rattle.ice_state.specs.Lines.{OwnedLine};
 
 use crate::applied::Applied;
@@ -200,20 +201,15 @@ fn put_explanation<S: Sink>(
     page.put(sink, totals)
 }
 
-/// Writes the text of an explanation and nothing else. All memory is taken before the first byte: it refuses for want
-/// of it, and then nothing was written, or where a write fails, and then a front of the text was.
+/// Writes the text of an explanation and nothing else. All memory is taken before the first byte: it refuses when out of
+/// memory, and then nothing was written, or where a write fails, and then a front of the text was.
 #[tactic(auto, unfolding(crate::specs::Texts::explanation_text))]
 pub fn write_explanation<S: Sink>(
     alloc: Global,
     explanation: &Explanation,
     sink: &mut S,
 ) -> Result<(), RunFault>
-    ensures all { OnOk result (Appends (S.taken sink.old) (S.taken sink.new) (explanation_text explanation.now)) }
-    ensures causes { IfErr result (λ e. (e ≡ RunFault.Memory) ⊎ (e ≡ RunFault.Write)) }
-    ensures nothing { IsErrOf result RunFault.Memory → S.taken sink.new ≡ S.taken sink.old }
-    ensures front { IsErrOf result RunFault.Write →
-        AppendsFront (S.taken sink.old) (S.taken sink.new) (explanation_text explanation.now) }
-    ensures cause { IsErrOf result RunFault.Write → S.may_fail sink.old }
+    ensures { WroteOrRefused S.taken S.may_fail sink.old result sink.new (explanation_text explanation.now) }
 {
     let applied = Applied::of(alloc, &explanation.plan.lines())?;
     let totals = totals_of(alloc, explanation.verdicts.as_slice())?;

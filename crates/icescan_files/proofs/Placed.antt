@@ -264,3 +264,9 @@ pub parted : (added : Added) (n : ℕ) (f : List ℕ × List ℕ) → slice_get 
 parted [] n f at = absurd cc
 parted (g ∷ added) zero f at = let same : g ≡ f = cc in (added, ap (λ x. x ∷ added) (sym same))
 parted (g ∷ added) (suc n) f at = let r = parted added n f at in (r.0, ap (λ l. g ∷ l) r.1)
+
+-- none of them was placed, and nothing was done
+pub stops_at_once : (names : Names) (added : Added) (f : List ℕ × List ℕ)
+    → StopsPlacing names (added ++ f ∷ []) store.Failed []
+stops_at_once names [] f = inl ([], inl refl)
+stops_at_once names (g ∷ added) f = inl ([], inl refl)

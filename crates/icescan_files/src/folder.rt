@@ -1,7 +1,7 @@
 //! Files below a folder, by the paths that a table gives them.
 
 ghost use Rattle.std.specs.Prelude.{◌≡◌, ◌≢◌, ◌↔◌, ◌++◌, ◌∷◌, ℕ, List, Option, Some, option_map, string_bytes, IfOk};
-ghost use Rattle.std.specs.Prelude.{IfErr, IsOk};
+ghost use Rattle.std.specs.Prelude.{IfErr, IsOk, IsTrue};
 ghost use Rattle.std.specs.Prelude.{MatchOption};
 ghost use Rattle.std.specs.Fs.{IsFile, file_type};
 ghost use Rattle.std.specs.IoError.{error_kind};
@@ -75,6 +75,16 @@ fn rest_of<'a>(prefix: &str, path: &'a str) -> Option<&'a str>
     match behind.strip_prefix('/') {
         Some(rest) => Some(rest),
         None => Some(behind),
+    }
+}
+
+/// Whether a path names no file below a folder: it does not begin with the prefix, or has a segment `.` or `..` after it.
+pub(crate) fn is_outside(prefix: &str, path: &str) -> bool
+    ensures { IsTrue result → (rest : List ℕ) → Inside prefix.now path.now rest → ⊥ }
+{
+    match rest_of(prefix, path) {
+        Some(_) => false,
+        None => true,
     }
 }
 

@@ -5,7 +5,7 @@ ghost use Rattle.ice_desk.specs.Worlds.{HasAt};
 ghost use Rattle.ice_state.specs.Contents.{World};
 ghost use Rattle.icescan_files.specs.Bundles.{File};
 
-use crate::folder::{CommitFolder, Folder};
+use crate::folder::{CommitFolder, Folder, is_outside};
 use crate::listing::names_in_folder;
 use crate::store::{Store, StoreFault};
 use contract_words::Text;
@@ -186,6 +186,13 @@ impl<H: std::rt::Files> Store for HostStores<'_, H> {
     ghost files = { λ _. None };
 
     ghost may_fail = { λ _. Unit {0} };
+
+    fn has_no_place(&self, path: &str) -> bool {
+        match &self.entered {
+            Some(entered) => is_outside(entered.prefix.as_str(), path),
+            None => false,
+        }
+    }
 
     fn create_new(&mut self, alloc: Global, path: &str, bytes: &[u8]) -> Result<(), StoreFault> {
         match &self.entered {

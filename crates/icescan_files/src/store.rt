@@ -1,6 +1,6 @@
 //! Where new files are put.
 
-ghost use Rattle.std.specs.Prelude.{◌≡◌, ℕ, List, Option, None, OnOk, OnErr, IfErr};
+ghost use Rattle.std.specs.Prelude.{◌≡◌, ℕ, List, Option, None, OnOk, OnErr, IfErr, IsTrue};
 ghost use Rattle.icescan_files.specs.Bundles.{File};
 ghost use Rattle.icescan_files.specs.Stores.{MayLack, MayRefuse, Puts, PutsAll, StopsAt, WereFree};
 ghost use Rattle.icescan_files.specs.Disks.{ArePlaced, Event, Extends, IsPlacedAt, NotPlacedAt, StopsPlacing};
@@ -32,6 +32,13 @@ pub trait Store {
 
     /// The name that the file of a path has on its disk, and a name that it may have until it is whole.
     ghost names: { Self → List ℕ → List ℕ → List ℕ → Type 0 } = { λ _ _ _ _. ⊥ };
+
+    /// Whether a path is known to have no place here, before any call to a disk: a file can't be put there.
+    fn has_no_place(&self, _path: &str) -> bool
+        ensures { IsTrue result → may_fail self.now }
+    {
+        false
+    }
 
     /// Puts a file where there was none. A reader finds the whole file or none, also after a refusal and where the
     /// process is killed.

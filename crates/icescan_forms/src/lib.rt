@@ -4,11 +4,13 @@
 mod format;
 mod object_lines;
 mod objects;
+mod part;
 mod pieces;
 mod quotes;
 
 pub use format::Format;
 pub use object_lines::ObjectLines;
 pub use objects::{Value, put_object};
+pub use part::Part;
 pub use pieces::{comma_before, put_ids, put_places, put_quoted};
 pub use quotes::{hex_digit, put_escaped};

@@ -11,6 +11,7 @@ mod commits;
 mod drill;
 mod fields;
 mod filter;
+mod lineage;
 mod looks;
 mod manifest;
 mod manifests;

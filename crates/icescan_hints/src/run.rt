@@ -4,6 +4,7 @@ use crate::avro::of_container;
 use crate::commit::{of_change, of_prepare};
 use crate::drill::of_drill;
 use crate::filter::of_filter;
+use crate::lineage::of_lineage;
 use crate::manifest::{of_list, of_manifest};
 use crate::metadata::of_metadata;
 use crate::plan::{of_finish, of_scan};
@@ -127,6 +128,7 @@ fn sentence_of(fault: &RunFault, commits: bool) -> Option<Sentence> {
         RunFault::Filter(fault) => of_filter(*fault),
         RunFault::Drill(fault) => of_drill(fault),
         RunFault::Locate(fault) => of_newest(fault),
+        RunFault::Lineage(fault) => of_lineage(*fault),
         RunFault::Change(fault) => of_change(*fault),
         RunFault::Prepare(fault) => of_prepare(fault),
         RunFault::Conflict(_) => CONFLICT,

@@ -5,7 +5,6 @@ ghost use Rattle.serde_json.specs.Data.{Data};
 ghost use Rattle.serde_json.specs.Written.{compact_text};
 ghost use Rattle.icescan_print.specs.Written.{Appends, AppendsFront, Sent};
 ghost use Rattle.ice_state.specs.PlacedFiles.{ArePlaced};
-ghost use Rattle.icescan_json.specs.declared.plan.JsonFault.TheVariants as json;
 ghost use Rattle.icescan_json.specs.PlanJson.{tasks_json};
 ghost use Rattle.icescan_json.specs.Texts.{deletes_text, json_text, needed, references_text, tasks_text, IsJsonOf};
 ghost use Rattle.icescan_json.specs.Types.{spec_types};
@@ -16,32 +15,8 @@ use ice_meta::Spec;
 use ice_state::{Lines, PlacedFiles};
 use icescan_forms::{comma_before, put_places};
 use icescan_print::{Page, Sink, SinkFault};
-use std::alloc::{AllocError, Global};
-
-/// What keeps a plan's JSON from being written.
-#[derive(Clone, Copy, Debug, PartialEq, Eq)]
-pub enum JsonFault {
-    /// Memory lacks.
-    Memory,
-    /// A write failed.
-    Write,
-}
-
-impl From<AllocError> for JsonFault {
-    ghost from_gives = { λ _ e. e ≡ json.Memory };
-
-    fn from(_: AllocError) -> Self {
-        JsonFault::Memory
-    }
-}
-
-impl From<SinkFault> for JsonFault {
-    ghost from_gives = { λ _ e. e ≡ json.Write };
-
-    fn from(_: SinkFault) -> Self {
-        JsonFault::Write
-    }
-}
+use icescan_text::RunFault;
+use std::alloc::Global;
 
 /// Sends the delete files, with commas between them.
 fn put_deletes<S: Sink>(
@@ -162,14 +137,14 @@ pub fn write_typed_plan<S: Sink>(
     types: &[SpecTypes],
     lines: &Lines<'_>,
     sink: &mut S,
-) -> Result<(), JsonFault>
+) -> Result<(), RunFault>
     ensures all { OnOk result ((text : List ℕ) × IsJsonOf types.now lines.now text
         × Appends (S.taken sink.old) (S.taken sink.new) text) }
-    ensures causes { IfErr result (λ e. (e ≡ json.Memory) ⊎ (e ≡ json.Write)) }
-    ensures nothing { IsErrOf result json.Memory → S.taken sink.new ≡ S.taken sink.old }
-    ensures front { IsErrOf result json.Write → (text : List ℕ) × IsJsonOf types.now lines.now text
+    ensures causes { IfErr result (λ e. (e ≡ RunFault.Memory) ⊎ (e ≡ RunFault.Write)) }
+    ensures nothing { IsErrOf result RunFault.Memory → S.taken sink.new ≡ S.taken sink.old }
+    ensures front { IsErrOf result RunFault.Write → (text : List ℕ) × IsJsonOf types.now lines.now text
         × AppendsFront (S.taken sink.old) (S.taken sink.new) text }
-    ensures cause { IsErrOf result json.Write → S.may_fail sink.old }
+    ensures cause { IsErrOf result RunFault.Write → S.may_fail sink.old }
 {
     let mut page = Page::new(alloc)?;
     let plan = lines.placed_files();
@@ -187,21 +162,21 @@ pub fn write_typed_plan<S: Sink>(
 /// 9999 has a sign. All delete files of the plan stand in the list, those too that apply to no data file; but none where
 /// no data file stands, which clients refuse.
 ///
-/// It refuses for want of memory, and then nothing was written, or where a write fails, and then a front of the text
+/// It refuses when out of memory, and then nothing was written, or where a write fails, and then a front of the text
 /// was.
 pub fn write_plan_json<S: Sink>(
     alloc: Global,
     specs: &[Spec],
     lines: &Lines<'_>,
     sink: &mut S,
-) -> Result<(), JsonFault>
+) -> Result<(), RunFault>
     ensures all { OnOk result ((text : List ℕ) × IsJsonOf (map spec_types specs.now) lines.now text
         × Appends (S.taken sink.old) (S.taken sink.new) text) }
-    ensures causes { IfErr result (λ e. (e ≡ json.Memory) ⊎ (e ≡ json.Write)) }
-    ensures nothing { IsErrOf result json.Memory → S.taken sink.new ≡ S.taken sink.old }
-    ensures front { IsErrOf result json.Write → (text : List ℕ) × IsJsonOf (map spec_types specs.now) lines.now text
+    ensures causes { IfErr result (λ e. (e ≡ RunFault.Memory) ⊎ (e ≡ RunFault.Write)) }
+    ensures nothing { IsErrOf result RunFault.Memory → S.taken sink.new ≡ S.taken sink.old }
+    ensures front { IsErrOf result RunFault.Write → (text : List ℕ) × IsJsonOf (map spec_types specs.now) lines.now text
         × AppendsFront (S.taken sink.old) (S.taken sink.new) text }
-    ensures cause { IsErrOf result json.Write → S.may_fail sink.old }
+    ensures cause { IsErrOf result RunFault.Write → S.may_fail sink.old }
 {
     let types = types_of_specs(alloc, specs)?;
     write_typed_plan(alloc, &types, lines, sink)

@@ -5,7 +5,7 @@ ghost use Rattle.icescan_json.specs.JsonAnswers.{IsJsonOfPlan};
 ghost use Rattle.icescan_json.specs.Types.{spec_types};
 ghost use Rattle.icescan_print.specs.Written.{Appends, AppendsFront};
 
-use crate::plan::{JsonFault, write_typed_plan};
+use crate::plan::write_typed_plan;
 use crate::types::{SpecTypes, types_of_specs};
 use contract_words::Items;
 use ice_state::OwnedPlan;
@@ -37,7 +37,7 @@ impl TypedPlan {
     }
 }
 
-/// Writes a plan as JSON and nothing else. It refuses for want of memory, and then nothing was written, or where a
+/// Writes a plan as JSON and nothing else. It refuses when out of memory, and then nothing was written, or where a
 /// write fails, and then a front of the text was.
 pub(crate) fn write_json<W: Sink>(
     alloc: Global,
@@ -52,10 +52,5 @@ pub(crate) fn write_json<W: Sink>(
         × AppendsFront (W.taken output.old) (W.taken output.new) text }
     ensures cause { IsErrOf result RunFault.Write → W.may_fail output.old }
 {
-    let types = typed.types.as_slice();
-    match write_typed_plan(alloc, types, &typed.plan.lines(), output) {
-        Ok(()) => Ok(()),
-        Err(JsonFault::Memory) => Err(RunFault::Memory),
-        Err(JsonFault::Write) => Err(RunFault::Write),
-    }
+    write_typed_plan(alloc, typed.types.as_slice(), &typed.plan.lines(), output)
 }

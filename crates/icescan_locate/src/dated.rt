@@ -1,11 +1,12 @@
 //! The metadata files of a table in a folder, each with its number and the time that it says.
 
-ghost use Rattle.std.specs.Prelude.{◌≡◌, ◌⊎◌, ℕ, List, Option, IfErr, IfOk, IsErrOf, OnOk, Some, None, filter, map};
+ghost use Rattle.std.specs.Prelude.{◌≡◌, ℕ, List, Option, IfOk, IsErrOf, OnOk, Some, None, filter, map};
 ghost use Rattle.std.specs.List.{All, flat_map};
 ghost use Rattle.icescan_locate.specs.Dated.{IsDated, file_line, is_metadata, newest_first, or_dash, time_in};
 ghost use Rattle.ice_meta_files.specs.Newest.{number_in};
 ghost use Rattle.icescan_locate.specs.Located.{metadata_path};
-ghost use Rattle.icescan_print.specs.Written.{Appends, AppendsFront, Sent};
+ghost use Rattle.icescan_print.specs.Written.{Sent};
+ghost use Rattle.icescan_text.specs.Writes.{WroteOrRefused};
 ghost use Rattle.ice_meta_files.specs.declared.newest_fault.NewestFault.{NewestFault};
 
 use crate::located::metadata_path;
@@ -141,15 +142,14 @@ fn put_files<S: Sink>(page: &mut Page, sink: &mut S, files: &[DatedFile]) -> Res
     Ok(())
 }
 
-/// Writes the lines of files.
+/// Writes the lines of files and nothing else. It refuses when out of memory, and then nothing was written, or where a
+/// write fails, and then a front of the lines was.
 pub fn write_files<S: Sink>(
     alloc: Global,
     files: &[DatedFile],
     sink: &mut S,
 ) -> Result<(), RunFault>
-    ensures all { OnOk result (Appends (S.taken sink.old) (S.taken sink.new) (flat_map file_line files.now)) }
-    ensures causes { IfErr result (λ e. (e ≡ RunFault.Memory) ⊎ (e ≡ RunFault.Write)) }
-    ensures nothing { IsErrOf result RunFault.Memory → S.taken sink.new ≡ S.taken sink.old }
+    ensures { WroteOrRefused S.taken S.may_fail sink.old result sink.new (flat_map file_line files.now) }
 {
     let mut page = Page::new(alloc)?;
     put_files(&mut page, sink, files)?;

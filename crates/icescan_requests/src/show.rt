@@ -1,12 +1,12 @@
 //! The text of a table's metadata, from the metadata's bytes.
 
-ghost use Rattle.std.specs.Prelude.{◌≡◌, ◌≢◌, ◌⊎◌, ◌∷◌, [], ℕ, List, Some, OnOk, IfErr, IsErrOf};
+ghost use Rattle.std.specs.Prelude.{◌≡◌, ◌≢◌, ◌∷◌, [], ℕ, List, Some, OnOk, IfErr, IsErrOf};
 ghost use Rattle.ice_desk.specs.Worlds.{EndsAt};
 ghost use Rattle.ice_state.specs.Contents.{World};
 ghost use Rattle.icescan_text.specs.Reads.{MayEnd};
 ghost use Rattle.icescan_requests.specs.Shows.{WroteFront, WroteText, show_of, shown_at};
 ghost use Rattle.icescan_print.specs.TableTexts.{table_text};
-ghost use Rattle.icescan_print.specs.Written.{Appends, AppendsFront};
+ghost use Rattle.icescan_text.specs.Writes.{WroteOrRefused};
 
 use ice_desk::Files;
 use ice_meta::{Metadata, Table};
@@ -17,12 +17,7 @@ use std::alloc::Global;
 /// Writes the text of a table and nothing else. It refuses when out of memory, and then nothing was written, or where a
 /// write fails, and then a front of the text was.
 fn write_table<S: Sink>(alloc: Global, table: &Table, sink: &mut S) -> Result<(), RunFault>
-    ensures all { OnOk result (Appends (S.taken sink.old) (S.taken sink.new) (table_text table.now)) }
-    ensures causes { IfErr result (λ e. (e ≡ RunFault.Memory) ⊎ (e ≡ RunFault.Write)) }
-    ensures nothing { IsErrOf result RunFault.Memory → S.taken sink.new ≡ S.taken sink.old }
-    ensures front { IsErrOf result RunFault.Write →
-        AppendsFront (S.taken sink.old) (S.taken sink.new) (table_text table.now) }
-    ensures cause { IsErrOf result RunFault.Write → S.may_fail sink.old }
+    ensures { WroteOrRefused S.taken S.may_fail sink.old result sink.new (table_text table.now) }
 {
     let main = main_of(alloc, table.current_snapshot_id)?;
     let shown = Shown::of(alloc, table, &main)?;

@@ -50,7 +50,7 @@
 #![tactic(auto)]
 
 use icescan_commands::{
-    HostFolders, HostStores, Looks, Silent, System, Terminals, Watch, run_program,
+    AgedFolders, HostFolders, HostStores, Looks, Silent, System, Terminals, Watch, run_program,
 };
 use std::alloc::{AllocError, Global};
 use std::fs;
@@ -86,7 +86,7 @@ fn words_of(alloc: Global, line: &str) -> Result<Vec<String>, AllocError> {
 /// error, and its status.
 fn play<H, W: Write>(host: &H, alloc: Global, line: &str, page: &mut W) -> io::Result<()>
 where
-    H: Files<File: Send, Dir: Send> + Threads + Wait + Watch + Looks + Sync,
+    H: Files<File: Send, Dir: Send> + Threads + Wait + Watch + Looks + AgedFolders + Sync,
 {
     let (from, behind) = marked(line, '<');
     let (to, words) = marked(behind, '>');

@@ -7,6 +7,8 @@ use Rattle.std.specs.Str.Parse.{digits_value, signed_digits_value, without_leadi
 use Rattle.uuid.specs.Text.{parsed}
 use Rattle.icescan_forms.specs.declared.format.Format.{Format}
 use Rattle.icescan_forms.specs.declared.format.Format.TheVariants as format
+use Rattle.icescan_forms.specs.declared.part.Part.{Part}
+use Rattle.icescan_forms.specs.declared.part.Part.TheVariants as part
 use Rattle.icescan_words.specs.declared.command.Command.{Command}
 use Rattle.icescan_words.specs.declared.command.Command.TheVariants as command
 use Rattle.icescan_words.specs.declared.command.Lists.{Lists}
@@ -19,6 +21,7 @@ use Rattle.ice_meta.specs.declared.metadata.Target.{Target}
 use Rattle.ice_meta.specs.declared.metadata.Target.TheVariants as target
 use Rattle.icescan_text.specs.declared.change.ChangeKind.{ChangeKind}
 use Rattle.icescan_text.specs.declared.change.ChangeKind.TheVariants as kind
+use Rattle.icescan_text.specs.declared.request.ChangesRequest.{ChangesRequest}
 use Rattle.icescan_text.specs.declared.request.CommitRequest.{CommitRequest}
 use Rattle.ice_catalog_changes.specs.declared.change.Ids.{Ids}
 use Rattle.icescan_text.specs.declared.request.Request.{Request}
@@ -45,7 +48,7 @@ option_in (word ∷ words) name =
 abbrev pub is_flag : List ℕ → Bool
 is_flag word =
     bytes_eq word (codes "--bundle") || bytes_eq word (codes "--quiet") || bytes_eq word (codes "--null")
-    || bytes_eq word (codes "--all") || bytes_eq word (codes "--explain")
+    || bytes_eq word (codes "--all") || bytes_eq word (codes "--appends") || bytes_eq word (codes "--explain")
 
 -- the word after this option is its value: the option stands without `=`, and may have a value
 abbrev pub takes_next : List ℕ → Bool
@@ -99,6 +102,12 @@ IsNamed text target.Main = text ≡ None
 IsNamed text (target.Ref name) = text ≡ Some name
 IsNamed text (target.Snapshot id) = signed text ≡ Some id
 
+-- the part, by the texts of --only and --without
+abbrev pub IsPart : Option (List ℕ) → Option (List ℕ) → Part → Type 0
+IsPart only without part.All = (only ≡ None) × (without ≡ None)
+IsPart only without (part.Only snapshots) = only ≡ Some snapshots
+IsPart only without (part.Without snapshots) = (only ≡ None) × (without ≡ Some snapshots)
+
 -- the form, by the text of --format
 abbrev pub format_by : Option (List ℕ) → Format
 format_by (Some name) = if bytes_eq name (codes "json") then format.Json else format.Text
@@ -138,8 +147,9 @@ command_name (command.Locate folder told) = codes "locate"
 command_name (command.Columns from of form path) = codes "columns"
 command_name (command.Audit from of form workers path) = codes "audit"
 command_name (command.Explain from request form workers path) = codes "explain"
-command_name (command.Changes from earlier request workers path) = codes "changes"
-command_name (command.Reachable from path) = codes "reachable"
+command_name (command.Changes from request form workers path) = codes "changes"
+command_name (command.Reachable from part path) = codes "reachable"
+command_name (command.Orphans place older path) = codes "orphans"
 command_name (command.Drill drill) = codes "drill"
 command_name (command.Text text) = codes "help"
 
@@ -157,11 +167,8 @@ module _ (words : List (List ℕ)) where
   abbrev pub HasRequest : Request → Type 0
   HasRequest request = HasTarget request.target × (option_in words (codes "--filter") ≡ request.filter)
 
-  -- the snapshots of --from and --to, and the filter
-  pub record HasChanges (from : Target) (request : Request) : Type 0 where
-    pub earlier : IsNamed (option_in words (codes "--from")) from
-    pub later : IsNamed (option_in words (codes "--to")) request.target
-    pub filter : option_in words (codes "--filter") ≡ request.filter
+  abbrev pub HasPart : Part → Type 0
+  HasPart part = IsPart (option_in words (codes "--only")) (option_in words (codes "--without")) part
 
   abbrev pub HasFormat : Format → Type 0
   HasFormat form = form ≡ format_by (option_in words (codes "--format"))
@@ -169,6 +176,20 @@ module _ (words : List (List ℕ)) where
   -- one of the words is this one
   abbrev pub has_word : List ℕ → Bool
   has_word wanted = list_any (λ word. bytes_eq word wanted) words
+
+  -- the plan of the snapshot that the option of this name names, under the filter
+  abbrev pub HasNamedPlan : List ℕ → Request → Type 0
+  HasNamedPlan name request = (option_in words (codes "--filter") ≡ request.filter)
+      × IsNamed (option_in words name) request.target
+
+  abbrev pub HasAppends : Bool → Type 0
+  HasAppends appends = appends ≡ has_word (codes "--appends")
+
+  -- the plans of --from and --to, and whether each snapshot between has to be an append
+  pub record HasChanges (request : ChangesRequest) : Type 0 where
+    pub earlier : HasNamedPlan (codes "--from") request.earlier
+    pub later : HasNamedPlan (codes "--to") request.later
+    pub appends : HasAppends request.appends
 
   abbrev pub HasLocated : Located → Type 0
   HasLocated told = told ≡ located_by (has_word (codes "--all")) (has_word (codes "--null"))
@@ -208,8 +229,10 @@ module _ (words : List (List ℕ)) where
       Names (codes "audit") path × HasSource from × HasTarget of × HasFormat form × HasWorkers workers
   AsksFor (command.Explain from request form workers path) =
       Names (codes "explain") path × HasSource from × HasRequest request × HasFormat form × HasWorkers workers
-  AsksFor (command.Changes from earlier request workers path) =
-      Names (codes "changes") path × HasSource from × HasChanges earlier request × HasWorkers workers
-  AsksFor (command.Reachable from path) = Names (codes "reachable") path × HasSource from
+  AsksFor (command.Changes from request form workers path) =
+      Names (codes "changes") path × HasSource from × HasChanges request × HasFormat form × HasWorkers workers
+  AsksFor (command.Reachable from part path) = Names (codes "reachable") path × HasSource from × HasPart part
+  AsksFor (command.Orphans place older path) = Names (codes "orphans") path × HasSource (source.Folder place)
+      × (unsigned (option_in words (codes "--older-than-ms")) ≡ Some older)
   AsksFor (command.Drill drill) = HasDrill drill
   AsksFor (command.Text text) = list_any asks_help words ≡ true

@@ -2,7 +2,9 @@
 
 use crate::command_line::{described, over_files};
 use crate::parameter::Parameter;
-use crate::parameters::{BUNDLE, DIR, FILTER, FROM, METADATA, PREFIX, QUIET, TO, WORKERS};
+use crate::parameters::{
+    APPENDS, BUNDLE, DIR, FILTER, FROM, LINES_FORMAT, METADATA, PREFIX, QUIET, TO, WORKERS,
+};
 use clap::Command;
 use std::alloc::{AllocError, Global};
 
@@ -28,6 +30,15 @@ last line counts:
 that is a whole number is an id. Each snapshot is planned as `plan` does, by the
 schema that counts for it.
 
+With --appends it is refused where --from is no ancestor of --to, by the parents
+that the table's metadata says (L2), or where a snapshot after it, up to --to,
+has another operation than `append` (L1, which names the first such snapshot).
+
+With --format json each line is an object: of a data file or a delete file with
+kind, change (added, removed or altered), path and the other values of its line,
+of a delete file with data, the path of its data file, and ids as above; of the
+last line with kind totals, added, removed and altered.
+
 Example, at the top of icescan's repository:
   icescan changes --from eoy --dir examples/events-java/table --prefix s3://warehouse/db/events \\
     s3://warehouse/db/events/metadata/00009-ea5012f5-592b-59fd-6564-e953f439e682.metadata.json
@@ -37,7 +48,17 @@ the filter is, 3 a read or a write failed, 5 memory ran out. A refusal is one
 line on standard error.";
 
 const CHANGES: &[Parameter] = &[
-    METADATA, FROM, TO, FILTER, WORKERS, BUNDLE, DIR, PREFIX, QUIET,
+    METADATA,
+    FROM,
+    TO,
+    FILTER,
+    APPENDS,
+    LINES_FORMAT,
+    WORKERS,
+    BUNDLE,
+    DIR,
+    PREFIX,
+    QUIET,
 ];
 
 /// The command `changes`.

@@ -2,8 +2,8 @@
 
 use contract_words::Text;
 use ice_meta::Target;
-use icescan_forms::Format;
-use icescan_text::{CommitRequest, Drill, Request, Separator};
+use icescan_forms::{Format, Part};
+use icescan_text::{ChangesRequest, CommitRequest, Drill, Request, Separator};
 
 /// A folder, and how the paths of the files below it begin.
 #[derive(Debug, Drop)]
@@ -58,11 +58,13 @@ pub enum Command {
     Audit(Source, Target, Format, usize, Text),
     /// The plan, by so many workers, that is asked of the table whose metadata is at this path, explained in this form.
     Explain(Source, Request, Format, usize, Text),
-    /// The changes, by so many workers, from a snapshot to the plan that is asked of the table whose metadata is at this
-    /// path.
-    Changes(Source, Target, Request, usize, Text),
-    /// The files that the table reaches whose metadata is at this path.
-    Reachable(Source, Text),
+    /// The changes, in this form and by so many workers, that are asked of the table whose metadata is at this path.
+    Changes(Source, ChangesRequest, Format, usize, Text),
+    /// This part of the files that the table reaches whose metadata is at this path.
+    Reachable(Source, Part, Text),
+    /// The files below this folder, older than so many milliseconds, that the table does not reach whose metadata is at
+    /// this path.
+    Orphans(Place, u64, Text),
     /// A drill.
     Drill(Drill),
     /// A text of help, or the version.

@@ -8,6 +8,7 @@ use crate::help_texts::{
     PROGRAM_EXAMPLE, ROW_DELTA_EXAMPLE, SHOW_EXAMPLE,
 };
 use crate::locate_command::locate_command;
+use crate::orphans_command::orphans_command;
 use crate::parameter::{Parameter, argument, flag};
 use crate::parameters::{
     AUDITED_REF, AUDITED_SNAPSHOT, BUNDLE, CHANGE, COMMITS, DIR, FILTER, FORMAT, LINES_FORMAT,
@@ -30,6 +31,7 @@ enum Name {
     Explain,
     Changes,
     Reachable,
+    Orphans,
     Drill,
 }
 
@@ -46,6 +48,7 @@ const NAMES: &[Name] = &[
     Name::Explain,
     Name::Changes,
     Name::Reachable,
+    Name::Orphans,
     Name::Drill,
 ];
 
@@ -200,6 +203,7 @@ fn command<'a>(alloc: Global, name: &Name) -> Result<Command<'a>, AllocError> {
         Name::Explain => explain_command(alloc),
         Name::Changes => changes_command(alloc),
         Name::Reachable => reachable_command(alloc),
+        Name::Orphans => orphans_command(alloc),
         Name::Drill => drill_command(alloc),
     }
 }

@@ -4,9 +4,9 @@ ghost use Rattle.std.specs.Prelude.{◌≡◌, ◌∷◌, [], IfOk, IsTrue, None
 ghost use Rattle.std.specs.Prelude.{option_and_then, option_map, string_bytes};
 ghost use Rattle.std.specs.List.{after_first, before_first, list_any, starts_with};
 ghost use Rattle.uuid.specs.Text.{parsed};
-ghost use Rattle.icescan_words.specs.Heard.{HasChanges, IsNamed};
+ghost use Rattle.icescan_words.specs.Heard.{HasAppends, HasChanges, HasNamedPlan, IsNamed};
 ghost use Rattle.icescan_words.specs.Heard.{AsksFor, HasCommit, HasDrill, HasFormat, HasIds, HasRequest, HasSource};
-ghost use Rattle.icescan_words.specs.Heard.{HasLocated, HasTarget, HasWorkers, Names, asks_help, is_equals};
+ghost use Rattle.icescan_words.specs.Heard.{HasLocated, HasPart, HasTarget, HasWorkers, Names, asks_help, is_equals};
 ghost use Rattle.icescan_words.specs.Heard.{is_flag};
 ghost use Rattle.icescan_words.specs.Heard.{list_of, name_of};
 ghost use Rattle.icescan_words.specs.Heard.{option_in, option_items, plain_words, located_by, signed, source_of};
@@ -19,8 +19,8 @@ use crate::command::{Command, Lists, Located, Place, Source};
 use contract_words::Text;
 use ice_catalog_changes::Ids;
 use ice_meta::Target;
-use icescan_forms::Format;
-use icescan_text::{ChangeKind, CommitRequest, Drill, Request, Separator};
+use icescan_forms::{Format, Part};
+use icescan_text::{ChangeKind, ChangesRequest, CommitRequest, Drill, Request, Separator};
 use std::alloc::{AllocError, Global};
 use uuid::Uuid;
 
@@ -64,6 +64,7 @@ fn is_flag(word: &str) -> bool
         || word == "--quiet"
         || word == "--null"
         || word == "--all"
+        || word == "--appends"
         || word == "--explain"
 }
 
@@ -451,13 +452,61 @@ fn has_named(words: &[String], name: &str, target: &Target) -> bool
     }
 }
 
-/// Whether the words ask for the changes from this snapshot to this plan.
-fn has_changes(words: &[String], earlier: &Target, request: &Request) -> bool
-    ensures { IsTrue result → HasChanges (map string_bytes words.now) earlier.now request.now }
+/// Whether the words ask for the plan of the snapshot that the option of this name names.
+fn has_named_plan(words: &[String], name: &str, request: &Request) -> bool
+    ensures { IsTrue result → HasNamedPlan (map string_bytes words.now) name.now request.now }
 {
-    has_named(words, "--from", earlier)
-        && has_named(words, "--to", &request.target)
-        && has_filter(words, request.filter.as_ref())
+    has_filter(words, request.filter.as_ref()) && has_named(words, name, &request.target)
+}
+
+/// Whether the words say that each snapshot between has to be an append, or don't.
+fn has_appends(words: &[String], appends: bool) -> bool
+    ensures { IsTrue result → HasAppends (map string_bytes words.now) appends }
+{
+    appends == has_word(words, "--appends")
+}
+
+/// Whether the words ask for these changes.
+fn has_changes(words: &[String], request: &ChangesRequest) -> bool
+    ensures { IsTrue result → HasChanges (map string_bytes words.now) request.now }
+{
+    has_named_plan(words, "--from", &request.earlier)
+        && has_named_plan(words, "--to", &request.later)
+        && has_appends(words, request.appends)
+}
+
+/// Whether the words ask for these changes, in this form and by so many workers.
+fn has_changes_told(
+    words: &[String],
+    request: &ChangesRequest,
+    format: Format,
+    workers: usize,
+) -> bool
+    ensures { IsTrue result → HasChanges (map string_bytes words.now) request.now
+        × HasFormat (map string_bytes words.now) format × HasWorkers (map string_bytes words.now) workers }
+{
+    has_changes(words, request) && has_format(words, format) && has_workers(words, workers)
+}
+
+/// Whether the words ask for this part.
+fn has_part(words: &[String], part: &Part) -> bool
+    ensures { IsTrue result → HasPart (map string_bytes words.now) part.now }
+{
+    let only = option_in(words, "--only");
+    let without = option_in(words, "--without");
+    match part {
+        Part::All => only.is_none() && without.is_none(),
+        Part::Only(wanted) => is_text(only, wanted.as_str()),
+        Part::Without(wanted) => only.is_none() && is_text(without, wanted.as_str()),
+    }
+}
+
+/// Whether the words name this folder, and so many milliseconds.
+fn has_age(words: &[String], place: &Place, older_than_ms: u64) -> bool
+    ensures { IsTrue result → HasSource (map string_bytes words.now) (source.Folder place.now)
+        × (unsigned (option_in (map string_bytes words.now) (codes "--older-than-ms")) ≡ Some older_than_ms) }
+{
+    is_place(words, place) && has_unsigned(words, "--older-than-ms", older_than_ms)
 }
 
 /// Whether the words, of which the plain ones are given, ask for this command.
@@ -494,13 +543,15 @@ fn asks_with(words: &[String], plain: &[&str], command: &Command) -> bool
             is_about(words, plain, "explain", source, path.as_str())
                 && has_plan(words, request, *format, *workers)
         }
-        Command::Changes(source, earlier, request, workers, path) => {
+        Command::Changes(source, request, format, workers, path) => {
             is_about(words, plain, "changes", source, path.as_str())
-                && has_changes(words, earlier, request)
-                && has_workers(words, *workers)
+                && has_changes_told(words, request, *format, *workers)
         }
-        Command::Reachable(source, path) => {
-            is_about(words, plain, "reachable", source, path.as_str())
+        Command::Reachable(source, part, path) => {
+            is_about(words, plain, "reachable", source, path.as_str()) && has_part(words, part)
+        }
+        Command::Orphans(place, older_than_ms, path) => {
+            are_words(plain, &["orphans", path.as_str()]) && has_age(words, place, *older_than_ms)
         }
         Command::Drill(drill) => has_drill(words, plain, *drill),
         Command::Text(_) => any_asks_help(words),

@@ -75,6 +75,14 @@ pub const AUDIT_EXAMPLE: &str =
 for each finding names what is wrong, the manifest and, where it is about one
 entry, its file; the last line has the numbers of manifests, live entries and
 findings:
+  other-spec, other-content, other-length
+               the manifest names another partition spec or another content, or
+               has another length, than the manifest list says
+  other-summaries
+               the manifest list has summaries of another number of fields than
+               the manifest's spec has
+  above-snapshot
+               the manifest's sequence number is above the snapshot's
   added-files, existing-files, deleted-files
                the manifest has another number of entries of this status than
                the manifest list counts
@@ -90,6 +98,23 @@ findings:
   bounds-cross, excess-nulls
                the manifest gives the column of this id a lower bound above its
                upper one, or more nulls than values
+  negative-counts, bounds-of-nulls
+               the manifest gives the column of this id fewer than no values or
+               nulls, or nulls alone and yet a bound
+  unbounded    the manifest list's summary of this partition field lacks a
+               bound, and the file's value isn't null
+  other-nulls  the file's value of this partition field is null and its column
+               has other values, or it isn't null and its column has nulls
+  outside-bounds
+               no value between the bounds of the field's column has the file's
+               value of this partition field
+  above-manifest
+               the file's sequence number is above the manifest's
+  no-equality-ids
+               the equality delete file names no column to delete by
+  negative-size, unknown-format
+               the file has fewer than no rows or bytes, or is of a format that
+               is none of Avro, ORC and Parquet
   named-not-live
                the position delete file names a data file that is not live
   dangling-position-deletes, dangling-equality-deletes
@@ -98,7 +123,8 @@ findings:
   live-twice   another live entry has the file's path: `plan` refuses that
                (these lines come after all others)
 Where no finding is `uncovered`, the plan under any filter is that of all
-manifests of the snapshot.
+manifests of the snapshot. Where none is a fault, each file may have, of each
+column by itself, values of which the manifest is right. No data file is read.
 
 With --format json each line is an object: a finding, whose `level` is `fault`
 or `note`, or last the numbers.
@@ -125,11 +151,17 @@ Exit status: 0 done, 1 a file is lost, 2 the command line is refused, 3 a write
 failed, 4 a commit met others too often, 5 memory ran out. A refusal is one line
 on standard error.";
 
-pub const APPEND_EXAMPLE: &str =
-    "CHANGE is a JSON file, as in the example. `partition` has a value for each
+/// The long help of a command that commits: what its change file says of delete files, the one of the example, and the
+/// command's name.
+macro_rules! help_of_commits {
+    ($of_deletes:literal, $change:literal, $name:literal) => {
+        concat!(
+            "CHANGE is a JSON file, as in the example. `partition` has a value for each
 field of the partition spec: null, true, false, a whole number (dates in days
 and times in microseconds since 1970-01-01 00:00 UTC), a text, or
-{\"hex\": \"00ff\"} for bytes and for a uuid.
+{\"hex\": \"00ff\"} for bytes and for a uuid.",
+            $of_deletes,
+            "
 
 With --dir the new files are written below the folder, whose folders have to be
 there, each whole and none over another; the metadata at --out comes last, so
@@ -143,10 +175,12 @@ is committed to through its catalog, never past it.
 
 Example, at the top of icescan's repository:
   cp -r examples/plain-java/table /tmp/plain
-  echo '{\"data\": [{\"path\": \"s3://warehouse/db/plain/data/new.parquet\",
-    \"format\": \"parquet\", \"spec-id\": 0, \"partition\": [], \"record-count\": 10,
-    \"file-size\": 1000}], \"deletes\": []}' > /tmp/plain/change.json
-  icescan append --dir /tmp/plain --prefix s3://warehouse/db/plain --snapshot-id 7 \\
+  echo '",
+            $change,
+            "' > /tmp/plain/change.json
+  icescan ",
+            $name,
+            " --dir /tmp/plain --prefix s3://warehouse/db/plain --snapshot-id 7 \\
     --uuid $(uuidgen) --now-ms $(date +%s000) \\
     --out s3://warehouse/db/plain/metadata/00006.metadata.json \\
     s3://warehouse/db/plain/metadata/00005-c64aaab7-8283-c18e-53ea-99e6e56da046.metadata.json \\
@@ -155,41 +189,28 @@ Example, at the top of icescan's repository:
 Exit status: 0 done, 1 the table or the commit is refused, 2 the command line,
 the bundle or the change file is, 3 a read or a write failed, 4 there is a file
 at the metadata's path already, 5 memory ran out. A refusal is one line on
-standard error.";
+standard error."
+        )
+    };
+}
 
-pub const ROW_DELTA_EXAMPLE: &str =
-    "CHANGE is a JSON file, as in the example. `partition` has a value for each
-field of the partition spec: null, true, false, a whole number (dates in days
-and times in microseconds since 1970-01-01 00:00 UTC), a text, or
-{\"hex\": \"00ff\"} for bytes and for a uuid. What a delete file deletes is by
+pub const APPEND_EXAMPLE: &str = help_of_commits!(
+    "",
+    "{\"data\": [{\"path\": \"s3://warehouse/db/plain/data/new.parquet\",
+    \"format\": \"parquet\", \"spec-id\": 0, \"partition\": [], \"record-count\": 10,
+    \"file-size\": 1000}], \"deletes\": []}",
+    "append"
+);
+
+pub const ROW_DELTA_EXAMPLE: &str = help_of_commits!(
+    " What a delete file deletes is by
 `position` or by `equality`, and then `equality-ids` are the ids of the columns
-to compare.
-
-With --dir the new files are written below the folder, whose folders have to be
-there, each whole and none over another; the metadata at --out comes last, so
-that a reader sees all of the commit or none. With --bundle they are printed as
-the lines of a bundle.
-
-Two commits compete for the path at --out alone: it is the one name that all
-writers of a table share for the metadata that follows, vN+1.metadata.json after
-vN, and the second to come is a conflict (status 4). A table that a catalog owns
-is committed to through its catalog, never past it.
-
-Example, at the top of icescan's repository:
-  cp -r examples/plain-java/table /tmp/plain
-  echo '{\"data\": [{\"path\": \"s3://warehouse/db/plain/data/new.parquet\",
+to compare.",
+    "{\"data\": [{\"path\": \"s3://warehouse/db/plain/data/new.parquet\",
     \"format\": \"parquet\", \"spec-id\": 0, \"partition\": [], \"record-count\": 10,
     \"file-size\": 1000}], \"deletes\": [{\"path\":
     \"s3://warehouse/db/plain/data/eq.parquet\", \"format\": \"parquet\",
     \"spec-id\": 0, \"partition\": [], \"record-count\": 1, \"file-size\": 300,
-    \"content\": \"equality\", \"equality-ids\": [1]}]}' > /tmp/plain/change.json
-  icescan row-delta --dir /tmp/plain --prefix s3://warehouse/db/plain --snapshot-id 7 \\
-    --uuid $(uuidgen) --now-ms $(date +%s000) \\
-    --out s3://warehouse/db/plain/metadata/00006.metadata.json \\
-    s3://warehouse/db/plain/metadata/00005-c64aaab7-8283-c18e-53ea-99e6e56da046.metadata.json \\
-    s3://warehouse/db/plain/change.json
-
-Exit status: 0 done, 1 the table or the commit is refused, 2 the command line,
-the bundle or the change file is, 3 a read or a write failed, 4 there is a file
-at the metadata's path already, 5 memory ran out. A refusal is one line on
-standard error.";
+    \"content\": \"equality\", \"equality-ids\": [1]}]}",
+    "row-delta"
+);

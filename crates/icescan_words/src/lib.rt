@@ -11,6 +11,7 @@ mod heard;
 mod help_texts;
 mod locate_command;
 mod matches;
+mod orphans_command;
 mod parameter;
 mod parameters;
 mod parsing;

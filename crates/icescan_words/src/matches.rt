@@ -4,7 +4,7 @@ ghost use Rattle.std.specs.Prelude.{◌≡◌, IfErr, IfOk, None, Some, codes, o
 ghost use Rattle.clap.specs.Words.{subcommand_name_of};
 ghost use Rattle.uuid.specs.Text.{parsed};
 ghost use Rattle.icescan_words.specs.CommandLines.{IsWordsFault};
-ghost use Rattle.icescan_words.specs.Heard.{IsNamed, IsSource, IsTarget, command_name, format_by, list_of, name_of};
+ghost use Rattle.icescan_words.specs.Heard.{IsNamed, IsPart, IsSource, IsTarget, command_name, format_by, list_of, name_of};
 ghost use Rattle.icescan_words.specs.Heard.{signed, source_of, unsigned, workers_by};
 ghost use Rattle.icescan_words.specs.Matched.{value_at};
 
@@ -14,8 +14,10 @@ use clap::ArgMatches;
 use contract_words::Text;
 use ice_catalog_changes::Ids;
 use ice_meta::Target;
-use icescan_forms::Format;
-use icescan_text::{ChangeKind, CommitRequest, Drill, Request, RunFault, Separator};
+use icescan_forms::{Format, Part};
+use icescan_text::{
+    ChangeKind, ChangesRequest, CommitRequest, Drill, Request, RunFault, Separator,
+};
 use std::alloc::{AllocError, Global};
 use uuid::Uuid;
 
@@ -151,14 +153,26 @@ fn named_target(alloc: Global, matches: &ArgMatches<'_>, name: &str) -> Result<T
     }
 }
 
-/// The later plan of which the changes are asked for.
-fn later_of(alloc: Global, matches: &ArgMatches<'_>) -> Result<Request, AllocError>
-    ensures target { IfOk result (λ request. IsNamed (value_at matches.now (codes "to")) request.target) }
+/// One of the plans of which the changes are asked for: of the snapshot that the option of this name names.
+fn named_request(alloc: Global, matches: &ArgMatches<'_>, name: &str) -> Result<Request, AllocError>
+    ensures target { IfOk result (λ request. IsNamed (value_at matches.now name.now) request.target) }
     ensures filter { IfOk result (λ request. request.filter ≡ value_at matches.now (codes "filter")) }
 {
     Ok(Request {
-        target: named_target(alloc, matches, "to")?,
+        target: named_target(alloc, matches, name)?,
         filter: text_at(alloc, matches, "filter")?,
+    })
+}
+
+/// What changes are asked for.
+fn changes_of(alloc: Global, matches: &ArgMatches<'_>) -> Result<ChangesRequest, AllocError>
+    ensures earlier { IfOk result (λ request. IsNamed (value_at matches.now (codes "from")) request.earlier.target) }
+    ensures later { IfOk result (λ request. IsNamed (value_at matches.now (codes "to")) request.later.target) }
+{
+    Ok(ChangesRequest {
+        earlier: named_request(alloc, matches, "from")?,
+        later: named_request(alloc, matches, "to")?,
+        appends: matches.get_flag("appends"),
     })
 }
 
@@ -355,9 +369,38 @@ fn changes_command(alloc: Global, matches: &ArgMatches<'_>) -> Result<Command, R
 {
     Ok(Command::Changes(
         source_of(alloc, matches)?,
-        named_target(alloc, matches, "from")?,
-        later_of(alloc, matches)?,
+        changes_of(alloc, matches)?,
+        format_of(matches),
         workers_of(alloc, matches)?,
+        required_text(alloc, matches, "metadata")?,
+    ))
+}
+
+/// The part that is asked for.
+fn part_of(alloc: Global, matches: &ArgMatches<'_>) -> Result<Part, AllocError>
+    ensures { IfOk result (λ part. IsPart (value_at matches.now (codes "only")) (value_at matches.now (codes "without"))
+        part) }
+{
+    if let Some(snapshots) = matches.get_str("only") {
+        return Ok(Part::Only(text_of(alloc, snapshots)?));
+    }
+    match matches.get_str("without") {
+        Some(snapshots) => Ok(Part::Without(text_of(alloc, snapshots)?)),
+        None => Ok(Part::All),
+    }
+}
+
+/// The files of a folder that are asked for.
+fn orphans_command(alloc: Global, matches: &ArgMatches<'_>) -> Result<Command, RunFault>
+    ensures name { IfOk result (λ command. command_name command ≡ codes "orphans") }
+    ensures causes { IfErr result IsWordsFault }
+{
+    let Source::Folder(place) = source_of(alloc, matches)? else {
+        return Err(misread(alloc));
+    };
+    Ok(Command::Orphans(
+        place,
+        required_unsigned(alloc, matches, "older-than-ms")?,
         required_text(alloc, matches, "metadata")?,
     ))
 }
@@ -369,6 +412,7 @@ fn reachable_command(alloc: Global, matches: &ArgMatches<'_>) -> Result<Command,
 {
     Ok(Command::Reachable(
         source_of(alloc, matches)?,
+        part_of(alloc, matches)?,
         required_text(alloc, matches, "metadata")?,
     ))
 }
@@ -411,6 +455,7 @@ fn command_of(alloc: Global, matches: &ArgMatches<'_>) -> Result<Command, RunFau
         "explain" => explain_command(alloc, matches),
         "changes" => changes_command(alloc, matches),
         "reachable" => reachable_command(alloc, matches),
+        "orphans" => orphans_command(alloc, matches),
         "append" => commit_command(alloc, matches, ChangeKind::Append),
         "row-delta" => commit_command(alloc, matches, ChangeKind::RowDelta),
         "drill" => Ok(Command::Drill(drill_of(alloc, matches)?)),

@@ -148,6 +148,46 @@ pub const COLUMNS_SNAPSHOT: Parameter = Parameter {
     ..SNAPSHOT
 };
 
+/// Snapshots whose own files are asked for.
+pub const ONLY: Parameter = Parameter {
+    name: "only",
+    kind: Kind::Optional,
+    value: "IDS",
+    takes: ValueParser::NonEmptyString,
+    rule: Rule::Without("without"),
+    help: "The files that these snapshots alone need: ids, with commas between them",
+};
+
+/// Snapshots that are left out.
+pub const WITHOUT: Parameter = Parameter {
+    name: "without",
+    rule: Rule::Free,
+    help: "The files that are needed without these snapshots",
+    ..ONLY
+};
+
+/// How old files are that are orphans.
+pub const OLDER_THAN_MS: Parameter = Parameter {
+    name: "older-than-ms",
+    kind: Kind::Required,
+    value: "N",
+    takes: ValueParser::Unsigned(0, u64::MAX),
+    rule: Rule::Free,
+    help: "Files that were changed in the last N milliseconds are no orphans",
+};
+
+/// The folder whose files are asked for, and the front of their paths.
+pub const SEARCHED_DIR: Parameter = Parameter {
+    kind: Kind::Required,
+    help: "The folder whose files are looked at, and below which the table's are",
+    ..DIR
+};
+
+pub const SEARCHED_PREFIX: Parameter = Parameter {
+    kind: Kind::Required,
+    ..PREFIX
+};
+
 /// The rows that are asked for.
 pub const FILTER: Parameter = Parameter {
     name: "filter",
@@ -189,6 +229,13 @@ pub const TO: Parameter = Parameter {
     kind: Kind::Optional,
     help: "Up to this one, or else to the current snapshot",
     ..FROM
+};
+
+/// Whether each snapshot between has to be an append.
+pub const APPENDS: Parameter = Parameter {
+    name: "appends",
+    help: "Refuse where a snapshot between is no append",
+    ..BUNDLE
 };
 
 /// How many threads a drill has.

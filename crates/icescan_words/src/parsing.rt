@@ -13,7 +13,7 @@ use clap::error::ErrorKind;
 use contract_words::Text;
 use icescan_forms::Format;
 use icescan_text::RunFault;
-use std::alloc::Global;
+use std::alloc::{AllocError, Global};
 
 /// What is shown in place of an answer: a text that was asked for, or why the words are not understood.
 fn shown(alloc: Global, error: &Error) -> Result<Command, RunFault>
@@ -43,16 +43,25 @@ fn parsed(alloc: Global, words: &[String]) -> Result<Command, RunFault>
     }
 }
 
+/// Why there is no command where the words don't ask for the one that was made of them, or it can't be told.
+fn unasked(alloc: Global, asked: Result<bool, AllocError>) -> RunFault
+    ensures { IsWordsFault result }
+{
+    match asked {
+        Ok(_) => misread(alloc),
+        Err(_) => RunFault::Memory,
+    }
+}
+
 /// The same, where the words themselves ask for it.
 fn heard(alloc: Global, words: &[String]) -> Result<Command, RunFault>
     ensures asked { IfOk result (AsksFor (map string_bytes words.now)) }
     ensures causes { IfErr result IsWordsFault }
 {
     let command = parsed(alloc, words)?;
-    if asks_for(alloc, words, &command)? {
-        Ok(command)
-    } else {
-        Err(misread(alloc))
+    match asks_for(alloc, words, &command) {
+        Ok(true) => Ok(command),
+        asked => Err(unasked(alloc, asked)),
     }
 }
 

@@ -2,7 +2,7 @@
 
 use crate::command_line::{described, over_files};
 use crate::parameter::Parameter;
-use crate::parameters::{BUNDLE, DIR, METADATA, PREFIX, QUIET};
+use crate::parameters::{BUNDLE, DIR, METADATA, ONLY, PREFIX, QUIET, WITHOUT};
 use clap::Command;
 use std::alloc::{AllocError, Global};
 
@@ -12,6 +12,9 @@ once: `metadata` (the file itself and those of its metadata log), `statistics`,
 `list` and `manifest` (those of every snapshot that the metadata has, also of one
 that no branch or tag names), `data` and `delete` (the files that a snapshot has
 live). A path is escaped, as in a plan.
+`--without ID,ID` tells the files that stay needed without these snapshots, and
+`--only ID,ID` the others, which these snapshots alone need: what expiring them
+lets go. Statistics go with their snapshot; the metadata and its log stay.
 Every manifest list is read, and every manifest once. Where one is absent, can't
 be read or is compressed, nothing is printed.
 
@@ -23,7 +26,7 @@ Exit status: 0 done, 1 the metadata, a manifest list or a manifest is refused, 2
 the command line or the bundle is, 3 a read or a write failed, 5 memory ran out.
 A refusal is one line on standard error.";
 
-const REACHABLE: &[Parameter] = &[METADATA, BUNDLE, DIR, PREFIX, QUIET];
+const REACHABLE: &[Parameter] = &[METADATA, ONLY, WITHOUT, BUNDLE, DIR, PREFIX, QUIET];
 
 /// The command `reachable`.
 pub fn reachable_command<'a>(alloc: Global) -> Result<Command<'a>, AllocError> {

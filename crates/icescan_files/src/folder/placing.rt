@@ -8,7 +8,7 @@ ghost use Rattle.icescan_files.specs.Disks.{IsMade, IsPlaced, IsWholeAt, NotLink
 ghost use Rattle.icescan_files.specs.Disks.{IsPlacedAt, NotPlacedAt, names_below};
 
 use super::disk::{Disk, HostDisk};
-use super::{Folder, file_name};
+use super::{Folder, file_name, is_outside};
 use crate::store::{Store, StoreFault};
 use ice_catalog_changes::Ids;
 use std::alloc::{AllocError, Global};
@@ -207,6 +207,10 @@ impl<D: Disk> Store for DiskFolder<'_, D> {
 
     ghost names = { λ s. names_below s.folder.now s.prefix.now s.ids.now };
 
+    fn has_no_place(&self, path: &str) -> bool {
+        is_outside(self.prefix, path)
+    }
+
     fn create_new(&mut self, alloc: Global, path: &str, bytes: &[u8]) -> Result<(), StoreFault> {
         match file_name(alloc, self.folder, self.prefix, path) {
             Ok(Some(name)) => place_new(&mut self.disk, alloc, self.ids, name.as_str(), bytes),
@@ -242,6 +246,10 @@ impl<H: std::rt::Files> Store for CommitFolder<'_, H> {
     ghost files = { λ _. None };
 
     ghost may_fail = { λ _. Unit {0} };
+
+    fn has_no_place(&self, path: &str) -> bool {
+        is_outside(self.folder.prefix, path)
+    }
 
     fn create_new(&mut self, alloc: Global, path: &str, bytes: &[u8]) -> Result<(), StoreFault> {
         let Folder {

@@ -1,7 +1,6 @@
 use Rattle.std.proofs.lemmas.Result.{err_from_is_err_and}
-use Rattle.icescan_changes.specs.Answers.{changes_at, changes_reads_at}
-use Rattle.icescan_commands.specs.Runs.{changes_told}
-use Rattle.icescan_commands.proofs.Answering.{gives_shown}
+use Rattle.icescan_changes.specs.Answers.{changes_reads_at}
+use Rattle.icescan_commands.specs.Runs.{changes_in}
 use Rattle.icescan_commands.proofs.Opened.{opened_ran, unopened_ran}
 use Rattle.icescan_commands.proofs.Reading.{changes_below}
 use Rattle.icescan_commands.proofs.arms.changes.Goals as goal
@@ -16,8 +15,8 @@ returns-in_err-files-clause-ran g c =
       no.1,
       unopened_ran (g.S.Folders.below c.args.system.now.folders.now)
           (g.S.Folders.may_fail c.args.system.now.folders.now) no.0
-          (λ world. changes_told world path c.args.from.now c.args.request.now c.args.workers)
-          (λ world. changes_reads_at world path c.args.from.now c.args.request.now) c.args.table.now.source.now
+          (λ world. changes_in c.args.format world path c.args.request.now c.args.workers)
+          (λ world. changes_reads_at world path c.args.request.now) c.args.table.now.source.now
           (g.W.Sink.may_fail c.args.output.now) _
           c.in_err-files.field-0.0 no.2,
     )
@@ -25,21 +24,19 @@ returns-in_err-files-clause-ran g c =
 pub returns-clause-ran : goal.returns-clause-ran
 returns-clause-ran g c =
     let opened = c.in_ok-files.ensures.opened in
-    let path = c.as_str.result.now in
-    let ran = c.changes_file in
+    let path = c.as_str-path.result.now in
+    let ran = c.write_changes in
     let told = opened_ran (g.S.Folders.below c.args.system.now.folders.now)
     (g.S.Folders.may_fail c.args.system.now.folders.now) opened.0 c.args.table.now.source.now _ _ opened.2
-    (λ world. changes_told world path c.args.from.now c.args.request.now c.args.workers)
-    (λ world. changes_reads_at world path c.args.from.now c.args.request.now) (g.W.Sink.may_fail c.args.output.now)
-    ran.result _ _ (λ v told. gives_shown (changes_at v path c.args.from.now c.args.request.now c.args.workers) _ _
-    ran.result _ _ (ran.ensures.written v told) (ran.ensures.refused v told) (ran.ensures.front v told))
-    ran.ensures.refusal.nothing in
-    (opened.0, opened.1, rw c.as_str.ensures at told)
+    (λ world. changes_in c.args.format world path c.args.request.now c.args.workers)
+    (λ world. changes_reads_at world path c.args.request.now) (g.W.Sink.may_fail c.args.output.now)
+    ran.result _ _ (λ v told. ran.ensures.answers v told) ran.ensures.refusal.nothing in
+    (opened.0, opened.1, rw c.as_str-path.ensures at told)
 
 pub returns-clause-given : goal.returns-clause-given
 returns-clause-given g c =
-    let path = c.as_str.result.now in
+    let path = c.as_str-path.result.now in
     let wrote = changes_below (g.S.Folders.gives c.args.system.now.folders.now) c.args.table.now.source.now _
-    c.in_ok-files.ensures.given path c.args.from.now c.args.request.now c.args.workers c.changes_file.result _ _
-    c.changes_file.ensures.given in
-    rw c.as_str.ensures at wrote
+    c.in_ok-files.ensures.given c.args.format path c.args.request.now c.args.workers c.write_changes.result _ _
+    c.write_changes.ensures.given in
+    rw c.as_str-path.ensures at wrote

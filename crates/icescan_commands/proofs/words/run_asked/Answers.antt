@@ -83,8 +83,9 @@ returns-in-Explain-clause-ran g c =
 
 pub returns-in-Changes-clause-ran : goal.returns-in-Changes-clause-ran
 returns-in-Changes-clause-ran g c =
-    let asked : c.args.asked.now ≡ command.Changes c.in-Changes.source c.in-Changes.from c.in-Changes.request
-    c.in-Changes.workers c.in-Changes.path = search rules in
+    let asked : c.args.asked.now ≡
+    command.Changes c.in-Changes.source c.in-Changes.request c.in-Changes.format c.in-Changes.workers
+    c.in-Changes.path = search rules in
     let told = c.changes.ensures.ran in
     rw asked (
       told.0,
@@ -123,7 +124,8 @@ returns-in-Locate-clause-ran g c =
 pub returns-in-Reachable-clause-ran : goal.returns-in-Reachable-clause-ran
 returns-in-Reachable-clause-ran g c =
     let left = g.R.Read.remaining c.args.input.now in
-    let asked : c.args.asked.now ≡ command.Reachable c.in-Reachable.source c.in-Reachable.path = search rules in
+    let asked : c.args.asked.now ≡
+    command.Reachable c.in-Reachable.source c.in-Reachable.part c.in-Reachable.path = search rules in
     let none = c.no_findings-in-Reachable in
     rw asked (
       left_of left,
@@ -135,18 +137,54 @@ returns-in-Reachable-clause-ran g c =
 
 pub returns-in-Reachable-clause-stored : goal.returns-in-Reachable-clause-stored
 returns-in-Reachable-clause-stored g c =
-    let asked : c.args.asked.now ≡ command.Reachable c.in-Reachable.source c.in-Reachable.path = search rules in
+    let asked : c.args.asked.now ≡
+    command.Reachable c.in-Reachable.source c.in-Reachable.part c.in-Reachable.path = search rules in
     rw asked refl
 
 pub returns-in-Reachable-clause-given : goal.returns-in-Reachable-clause-given
 returns-in-Reachable-clause-given g c =
-    let asked : c.args.asked.now ≡ command.Reachable c.in-Reachable.source c.in-Reachable.path = search rules in
+    let asked : c.args.asked.now ≡
+    command.Reachable c.in-Reachable.source c.in-Reachable.part c.in-Reachable.path = search rules in
     rw asked (counted_as _ c.reachable.result c.no_findings-in-Reachable.result
     c.no_findings-in-Reachable.ensures.same c.no_findings-in-Reachable.ensures.none c.reachable.ensures.given)
 
 pub returns-in-Reachable-clause-stored_of_given : goal.returns-in-Reachable-clause-stored_of_given
 returns-in-Reachable-clause-stored_of_given g c =
-    let asked : c.args.asked.now ≡ command.Reachable c.in-Reachable.source c.in-Reachable.path = search rules in
+    let asked : c.args.asked.now ≡
+    command.Reachable c.in-Reachable.source c.in-Reachable.part c.in-Reachable.path = search rules in
+    rw asked tt
+
+pub returns-in-Orphans-clause-ran : goal.returns-in-Orphans-clause-ran
+returns-in-Orphans-clause-ran g c =
+    let left = g.R.Read.remaining c.args.input.now in
+    let asked : c.args.asked.now ≡
+    command.Orphans c.in-Orphans.place c.in-Orphans.older_than_ms c.in-Orphans.path = search rules in
+    let none = c.no_findings-in-Orphans in
+    rw asked (
+      left_of left,
+      is_left left,
+      ran_as _ _ c.orphans.result none.result _ _ none.ensures.same
+          c.orphans.ensures.ran,
+      none.ensures.none,
+    )
+
+pub returns-in-Orphans-clause-stored : goal.returns-in-Orphans-clause-stored
+returns-in-Orphans-clause-stored g c =
+    let asked : c.args.asked.now ≡
+    command.Orphans c.in-Orphans.place c.in-Orphans.older_than_ms c.in-Orphans.path = search rules in
+    rw asked refl
+
+pub returns-in-Orphans-clause-given : goal.returns-in-Orphans-clause-given
+returns-in-Orphans-clause-given g c =
+    let asked : c.args.asked.now ≡
+    command.Orphans c.in-Orphans.place c.in-Orphans.older_than_ms c.in-Orphans.path = search rules in
+    rw asked (counted_as _ c.orphans.result c.no_findings-in-Orphans.result
+    c.no_findings-in-Orphans.ensures.same c.no_findings-in-Orphans.ensures.none c.orphans.ensures.given)
+
+pub returns-in-Orphans-clause-stored_of_given : goal.returns-in-Orphans-clause-stored_of_given
+returns-in-Orphans-clause-stored_of_given g c =
+    let asked : c.args.asked.now ≡
+    command.Orphans c.in-Orphans.place c.in-Orphans.older_than_ms c.in-Orphans.path = search rules in
     rw asked tt
 
 pub returns-in-Drill-clause-drilled : goal.returns-in-Drill-clause-drilled
@@ -199,8 +237,9 @@ returns-in-Explain-clause-stored g c =
 
 pub returns-in-Changes-clause-stored : goal.returns-in-Changes-clause-stored
 returns-in-Changes-clause-stored g c =
-    let asked : c.args.asked.now ≡ command.Changes c.in-Changes.source c.in-Changes.from c.in-Changes.request
-    c.in-Changes.workers c.in-Changes.path = search rules in
+    let asked : c.args.asked.now ≡
+    command.Changes c.in-Changes.source c.in-Changes.request c.in-Changes.format c.in-Changes.workers
+    c.in-Changes.path = search rules in
     rw asked refl
 
 pub returns-in-Locate-clause-stored : goal.returns-in-Locate-clause-stored
@@ -274,8 +313,9 @@ returns-in-Explain-clause-given g c =
 
 pub returns-in-Changes-clause-given : goal.returns-in-Changes-clause-given
 returns-in-Changes-clause-given g c =
-    let asked : c.args.asked.now ≡ command.Changes c.in-Changes.source c.in-Changes.from c.in-Changes.request
-    c.in-Changes.workers c.in-Changes.path = search rules in
+    let asked : c.args.asked.now ≡
+    command.Changes c.in-Changes.source c.in-Changes.request c.in-Changes.format c.in-Changes.workers
+    c.in-Changes.path = search rules in
     rw asked (counted_as _ c.changes.result c.no_findings-in-Changes.result c.no_findings-in-Changes.ensures.same
     c.no_findings-in-Changes.ensures.none c.changes.ensures.given)
 
@@ -338,8 +378,9 @@ returns-in-Explain-clause-stored_of_given g c =
 
 pub returns-in-Changes-clause-stored_of_given : goal.returns-in-Changes-clause-stored_of_given
 returns-in-Changes-clause-stored_of_given g c =
-    let asked : c.args.asked.now ≡ command.Changes c.in-Changes.source c.in-Changes.from c.in-Changes.request
-    c.in-Changes.workers c.in-Changes.path = search rules in
+    let asked : c.args.asked.now ≡
+    command.Changes c.in-Changes.source c.in-Changes.request c.in-Changes.format c.in-Changes.workers
+    c.in-Changes.path = search rules in
     rw asked tt
 
 pub returns-in-Drill-clause-stored_of_given : goal.returns-in-Drill-clause-stored_of_given

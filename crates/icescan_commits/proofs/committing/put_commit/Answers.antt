@@ -2,7 +2,7 @@ use Rattle.std.proofs.Common.{ℕ, List, inl, inr, refl}
 use Rattle.std.proofs.lemmas.Result.{err_from_is_err_and}
 use Rattle.icescan_files.specs.declared.store.StoreFault.TheVariants as store
 use Rattle.icescan_commits.proofs.OnDisk.{beaten, commit_placed, file_stops, metadata_stops}
-use Rattle.icescan_files.proofs.Placed.{extends_as, extends_by_none}
+use Rattle.icescan_files.proofs.Placed.{extends_as, extends_by_none, stops_at_once}
 use Rattle.icescan_files.proofs.Stored.{all_front, free_next, puts_next}
 use Rattle.icescan_commits.proofs.Stored.{added_is, text_is}
 use Rattle.icescan_commits.proofs.committing.put_commit.Goals as goal
@@ -31,8 +31,8 @@ returns-in-Ok-create_new-clause-all g c = λ x writes.
     let all = rw same at c.in-Ok.ensures.all in
     let free = rw same at c.in-Ok.ensures.free in
     let f : List ℕ × List ℕ = (c.args.out.now, bytes) in
-    let puts = rw (c.as_str.ensures, c.deref.ensures.value) at c.in-Ok-create_new.ensures.puts in
-    let lacks = rw c.as_str.ensures at c.in-Ok-create_new.ensures.free in (
+    let puts = rw (c.as_str-2.ensures, c.deref.ensures.value) at c.in-Ok-create_new.ensures.puts in
+    let lacks = rw c.as_str-2.ensures at c.in-Ok-create_new.ensures.free in (
       bytes,
       says,
       puts_next _ _ _ x.added f all puts,
@@ -48,6 +48,14 @@ pub returns-in_err-metadata-clause-unplaced : goal.returns-in_err-metadata-claus
 returns-in_err-metadata-clause-unplaced g c =
     let p = err_from_is_err_and c.from_residual-in_err-metadata.result c.from_residual-in_err-metadata.ensures.1 in
     λ x writes. rw (p.1, p.2) (extends_by_none (g.S.Store.events c.args.store.now) _ (inl refl))
+
+pub returns-then-has_no_place-clause-unplaced : goal.returns-then-has_no_place-clause-unplaced
+returns-then-has_no_place-clause-unplaced g c = λ x writes.
+    let bytes = c.in_ok-metadata.metadata.items in
+    let says = text_is c.args.prepared.now x c.version.result.now _ bytes writes c.version.ensures c.metadata.ensures
+    c.in_ok-metadata.ensures.read_back c.in_ok-metadata.ensures.text in
+    let stops = stops_at_once (g.S.Store.names c.args.store.now) x.added (c.args.out.now, bytes) in
+    extends_by_none (g.S.Store.events c.args.store.now) _ (store.Failed, (bytes, says, stops))
 
 pub returns-in-Err-Memory-clause-unplaced : goal.returns-in-Err-Memory-clause-unplaced
 returns-in-Err-Memory-clause-unplaced g c = λ x writes.
@@ -86,7 +94,7 @@ returns-in-Err-There-clause-unplaced g c = λ x writes.
     let names = g.S.Store.names c.args.store.now in
     let end = g.S.Store.events c.create_new.new.self in
     let names' = g.S.Store.names c.put_files.new.store in
-    let last = rw (c.as_str.ensures, c.deref.ensures.value, c.in-Err-There.field-0-is) at
+    let last = rw (c.as_str-2.ensures, c.deref.ensures.value, c.in-Err-There.field-0-is) at
     c.in-Err-There.ensures.unplaced in
     beaten names x c.args.out.now bytes c.files.result.now same says before put names'
     c.in-Ok.ensures.named end c.in-Ok.ensures.placed last
@@ -102,7 +110,7 @@ returns-in-Err-Failed-clause-unplaced g c = λ x writes.
     let names = g.S.Store.names c.args.store.now in
     let end = g.S.Store.events c.create_new.new.self in
     let names' = g.S.Store.names c.put_files.new.store in
-    let last = rw (c.as_str.ensures, c.deref.ensures.value, c.in-Err-Failed.field-0-is) at
+    let last = rw (c.as_str-2.ensures, c.deref.ensures.value, c.in-Err-Failed.field-0-is) at
     c.in-Err-Failed.ensures.unplaced in
     let stops = metadata_stops names x c.args.out.now bytes c.files.result.now same says before put names'
     c.in-Ok.ensures.named end c.in-Ok.ensures.placed store.Failed last in
@@ -119,7 +127,7 @@ returns-in-Err-Memory-create_new-clause-unplaced g c = λ x writes.
     let names = g.S.Store.names c.args.store.now in
     let end = g.S.Store.events c.create_new.new.self in
     let names' = g.S.Store.names c.put_files.new.store in
-    let last = rw (c.as_str.ensures, c.deref.ensures.value, c.in-Err-Memory-create_new.field-0-is) at
+    let last = rw (c.as_str-2.ensures, c.deref.ensures.value, c.in-Err-Memory-create_new.field-0-is) at
     c.in-Err-Memory-create_new.ensures.unplaced in
     let stops = metadata_stops names x c.args.out.now bytes c.files.result.now same says before put names'
     c.in-Ok.ensures.named end c.in-Ok.ensures.placed store.Memory last in
@@ -136,6 +144,6 @@ returns-in-Ok-create_new-clause-placed g c = λ x writes.
     let names = g.S.Store.names c.args.store.now in
     let end = g.S.Store.events c.create_new.new.self in
     let names' = g.S.Store.names c.put_files.new.store in
-    let last = rw (c.as_str.ensures, c.deref.ensures.value) at c.in-Ok-create_new.ensures.placed in
+    let last = rw (c.as_str-2.ensures, c.deref.ensures.value) at c.in-Ok-create_new.ensures.placed in
     commit_placed names x c.args.out.now bytes c.files.result.now same says before put names'
     c.in-Ok.ensures.named end c.in-Ok.ensures.placed last

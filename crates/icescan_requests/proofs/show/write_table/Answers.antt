@@ -1,7 +1,13 @@
+use Rattle.std.proofs.Common.{rules}
 use Rattle.icescan_print.proofs.Sends.{wrote_all_sent}
 use Rattle.icescan_requests.proofs.show.write_table.Goals as goal
 
-pub returns-in_err-flush-clause-front : goal.returns-in_err-flush-clause-front
-returns-in_err-flush-clause-front g c =
-    λ is. (wrote_all_sent _ _ _ _ _ _ _ _ _ (rw c.in_ok-page.ensures at c.in_ok-put_table.ensures)
-    c.in_err-flush.ensures.wrote).front
+pub returns-in_err-flush : goal.returns-in_err-flush
+returns-in_err-flush g c = record {
+  all = search rules;
+  causes = search rules;
+  nothing = search rules;
+  front = λ is. (wrote_all_sent _ _ _ _ _ _ _ _ _ (rw c.in_ok-page.ensures at c.in_ok-put_table.ensures)
+      c.in_err-flush.ensures.wrote).front;
+  cause = search rules;
+}
