@@ -2,7 +2,6 @@
 use Rattle.std.proofs.Common.{◌≡◌, ℕ, Bool, true, false, cond, List, [], ◌∷◌, ◌++◌, ℤ, nat_lt, refl, sym, ap, ◌∙◌, inl}
 use Rattle.std.proofs.Common.{inr, map, Option, Some, None}
 use Rattle.std.specs.List.{Contains}
-use Rattle.std.specs.Str.{bytes_eq}
 use Rattle.std.proofs.lemmas.List.Elements.{Contains-append_cases}
 use Rattle.contract_words.specs.Sorting.{sorted}
 use Rattle.ice_value.specs.declared.cell.Cell.{Cell}
@@ -27,8 +26,8 @@ use Rattle.icescan_audit_findings.specs.Findings.{entry_findings, finding_of, fl
 use Rattle.icescan_audit_findings.specs.Findings.{flaws_beside, manifest_finding}
 use Rattle.icescan_audit_findings.specs.Findings.{manifest_findings, missing, missing_columns, missing_in}
 use Rattle.icescan_audit_findings.specs.Flaws.{flaw_where}
-use Rattle.icescan_audit_findings.specs.Repeats.{path_before, repeat_of, repeat_where, repeats, repeats_behind}
-use Rattle.icescan_audit_findings.specs.Repeats.{repeats_in}
+use Rattle.icescan_audit_findings.specs.Repeats.{has_path_of, path_before, repeat_of, repeat_where, repeats}
+use Rattle.icescan_audit_findings.specs.Repeats.{repeats_behind, repeats_in}
 use Rattle.icescan_audit_findings.specs.RowFlaws.{has_row_flaw, row_finding, row_findings}
 use Rattle.icescan_audit_findings.specs.declared.basis.Basis.{Basis}
 use Rattle.icescan_audit_findings.specs.declared.basis.TypedColumn.{TypedColumn}
@@ -215,8 +214,8 @@ repeat_other false x f c = absurd (in_none f c)
 behind_other : (x : LiveFile) (ys : List LiveFile) → AreOthers (repeats_behind x ys)
 behind_other x [] = λ f c. absurd (in_none f c)
 behind_other x (y ∷ ys) =
-    both_others (repeat_where (bytes_eq x.path y.path) y) (repeats_behind y ys)
-    (repeat_other (bytes_eq x.path y.path) y) (behind_other y ys)
+    both_others (repeat_where (has_path_of x y) y) (repeats_behind y ys)
+    (repeat_other (has_path_of x y) y) (behind_other y ys)
 
 in_order_other : (xs : List LiveFile) → AreOthers (repeats_in xs)
 in_order_other [] = λ f c. absurd (in_none f c)

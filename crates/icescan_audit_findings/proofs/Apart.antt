@@ -11,23 +11,23 @@ use Rattle.std.specs.Ordering.{ordering_reverse}
 use Rattle.contract_words.specs.Sorting.{put, sorted}
 use Rattle.contract_words.proofs.Sorted.{Rises, sorted_rises}
 use Rattle.icescan_audit_findings.specs.Repeats.{has_path_of, path_before, repeat_where, repeats, repeats_behind}
-use Rattle.icescan_audit_findings.specs.Repeats.{repeats_in}
+use Rattle.icescan_audit_findings.specs.Repeats.{repeats_in, spelling_of}
 use Rattle.icescan_audit_findings.specs.declared.finding.Finding.{Finding}
 use Rattle.icescan_audit_findings.specs.declared.repeats.LiveFile.{LiveFile}
 
 -- ---- the order of paths
 
 order : IsStrictWeakOrder path_before
-order = ranks_by nat_list_cmp_total (λ (a : LiveFile). a.path)
+order = ranks_by nat_list_cmp_total spelling_of
 
 abbrev by_path : LiveFile → LiveFile → Ordering
-by_path a b = slice_cmp nat_cmp a.path b.path
+by_path a b = slice_cmp nat_cmp (spelling_of a) (spelling_of b)
 
 one_path : (a b : LiveFile) → has_path_of a b ≡ is_eq (by_path a b)
-one_path a b = sym (is_eq-slice_cmp a.path b.path)
+one_path a b = sym (is_eq-slice_cmp (spelling_of a) (spelling_of b))
 
 turned : (a b : LiveFile) → by_path b a ≡ ordering_reverse (by_path a b)
-turned a b = nat_list_cmp_total.antisymm b.path a.path
+turned a b = nat_list_cmp_total.antisymm (spelling_of b) (spelling_of a)
 
 strict_by : (r s : Ordering) → s ≡ ordering_reverse r → is_lt s ≡ false → is_eq r ≡ false → is_lt r ≡ true
 strict_by Less s h low apart = refl
@@ -56,7 +56,7 @@ apart_turned x y apart =
 apart_behind : (x y z : LiveFile) → path_before x y ≡ true → path_before z y ≡ false → has_path_of x z ≡ false
 apart_behind x y z first low =
     one_path x z ∙ between_by (by_path x z) (by_path x y) (by_path z y)
-    (λ is. nat_list_cmp_total.congr x.path z.path y.path is) first low
+    (λ is. nat_list_cmp_total.congr (spelling_of x) (spelling_of z) (spelling_of y) is) first low
 
 apart_all : (x y : LiveFile) (zs : List LiveFile) → path_before x y ≡ true
     → AllByRecursion (λ z. path_before z y ≡ false) zs → AllByRecursion (λ z. has_path_of x z ≡ false) zs

@@ -22,3 +22,5 @@ pub mod Keyed
 pub mod Unlike
 pub mod Honest
 pub mod Clean
+pub mod InOrder
+pub mod OfSets

@@ -44,7 +44,7 @@ use Rattle.icescan_audit_findings.specs.Findings.{missing}
 use Rattle.icescan_audit_findings.specs.Findings.{missing_columns}
 use Rattle.icescan_audit_findings.specs.Findings.{missing_in}
 use Rattle.icescan_audit_findings.specs.Flaws.{flaw_where}
-use Rattle.icescan_audit_findings.specs.Repeats.{path_before, repeat_where, repeats, repeats_behind, repeats_in}
+use Rattle.icescan_audit_findings.specs.Repeats.{has_path_of, path_before, repeat_where, repeats, repeats_behind, repeats_in}
 use Rattle.icescan_audit_findings.specs.Telling.{faults, is_fault, is_uncovered, uncovered}
 use Rattle.icescan_audit_findings.specs.Dangling.{dangling_flaw, data_files, delete_files, delete_findings}
 use Rattle.icescan_audit_findings.specs.Dangling.{finding_where}
@@ -54,7 +54,6 @@ use Rattle.ice_value.specs.Applying.{DataKey}
 use Rattle.std.specs.List.{flat_map}
 use Rattle.icescan_audit_findings.specs.declared.repeats.LiveFile.{LiveFile}
 use Rattle.contract_words.specs.Sorting.{sorted}
-use Rattle.std.specs.Str.{bytes_eq}
 
 -- ---- two lists
 
@@ -255,8 +254,8 @@ repeat_none false x = refl
 
 none_behind : (x : LiveFile) (xs : List LiveFile) → uncovered (repeats_behind x xs) ≡ []
 none_behind x [] = refl
-none_behind x (y ∷ ys) = none_of_all (repeat_where (bytes_eq x.path y.path) y) (repeats_behind y ys)
-    (repeat_none (bytes_eq x.path y.path) y) (none_behind y ys)
+none_behind x (y ∷ ys) = none_of_all (repeat_where (has_path_of x y) y) (repeats_behind y ys)
+    (repeat_none (has_path_of x y) y) (none_behind y ys)
 
 none_repeated : (xs : List LiveFile) → uncovered (repeats_in xs) ≡ []
 none_repeated [] = refl

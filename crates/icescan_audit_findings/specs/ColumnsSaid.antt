@@ -1,8 +1,10 @@
 -- What a manifest says of a column, looked up, and the maps that say it.
-use Rattle.std.specs.Prelude.{◌≡◌, ◌⊎◌, ◌<◌, ℕ, ℤ, pos, List, [], None, length, get_or}
+use Rattle.std.specs.Prelude.{◌≡◌, ◌⊎◌, ◌<◌, ℕ, ℤ, pos, Bool, true, false, List, [], None, length, get_or}
 use Rattle.std.specs.Option.{option_copied}
 use Rattle.ice_value.specs.Columns.{bound_of, count_of}
 use Rattle.ice_value.specs.Pairs.{bounds_said, counts_said}
+use Rattle.ice_value.specs.declared.column_type.ColumnType.{ColumnType}
+use Rattle.ice_value.specs.declared.column_type.ColumnType.TheVariants.{Binary, Fixed, String}
 use Rattle.ice_value.specs.declared.file_bounds.FileBounds.{FileBounds}
 use Rattle.icescan_audit_findings.specs.declared.columns.ColumnSaid.{ColumnSaid}
 use Rattle.icescan_audit_findings.specs.declared.columns.RisingMaps.{RisingMaps}
@@ -42,3 +44,10 @@ pub record SaysLittle (file : FileBounds) : Type 0 where
   pub bounds : (file.lower_bounds ≡ []) ⊎ (file.upper_bounds ≡ [])
   pub values : file.value_counts ≡ []
   pub nulls : file.null_counts ≡ []
+
+-- values of the type are texts or byte strings, which stand in the order of the bytes of their bounds
+abbrev pub is_of_bytes : ColumnType → Bool
+is_of_bytes String = true
+is_of_bytes (Fixed size) = true
+is_of_bytes Binary = true
+is_of_bytes _ = false

@@ -10,6 +10,7 @@ use Rattle.icescan_audit_findings.specs.declared.limits.FieldLimits.{FieldLimits
 use Rattle.icescan_audit_findings.specs.declared.repeats.LiveFile.{LiveFile}
 use Rattle.icescan_audit_findings.specs.Findings.{live_flaws}
 use Rattle.icescan_audit_findings.specs.Keys.{key_of}
+use Rattle.icescan_audit_findings.specs.Spelling.{odd_spelling}
 
 -- a live entry of a row's manifest, whose values may be within these limits
 abbrev pub examined : Basis → Row → List FieldLimits → Live → Examined
@@ -28,4 +29,4 @@ findings_on row x = map (finding_at row x.path) x.flaws
 
 -- the file of an entry
 abbrev pub file_at : Row → Examined → LiveFile
-file_at row x = record { path = x.path; manifest = row.path; key = x.key }
+file_at row x = record { path = x.path; spelling = odd_spelling x.path; manifest = row.path; key = x.key }

@@ -12,6 +12,7 @@ pub mod EntryFlaws
 pub mod FieldFlaws
 pub mod Honesty
 pub mod Findings
+pub mod Spelling
 pub mod Repeats
 pub mod RowFlaws
 pub mod Examining

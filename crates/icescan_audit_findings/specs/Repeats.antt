@@ -1,5 +1,5 @@
--- Paths of live files that another live file has too.
-use Rattle.std.specs.Prelude.{Bool, List, [], ◌∷◌, ◌++◌, map, Some, if◌then◌else◌}
+-- Paths of live files that another live file has too, in the same spelling or in another.
+use Rattle.std.specs.Prelude.{ℕ, Bool, List, [], ◌∷◌, ◌++◌, map, Some, unwrap_or, if◌then◌else◌}
 use Rattle.std.specs.Cmp.Lexicographic.{slice_cmp}
 use Rattle.std.specs.Ordering.{nat_cmp, is_lt}
 use Rattle.std.specs.Str.{bytes_eq}
@@ -12,21 +12,31 @@ use Rattle.icescan_audit_findings.specs.declared.finding.Finding.{Finding}
 use Rattle.icescan_audit_findings.specs.declared.finding.Flaw.TheVariants.{LiveTwice}
 use Rattle.icescan_audit_findings.specs.declared.repeats.LiveFile.{LiveFile}
 use Rattle.icescan_audit_findings.specs.Keys.{key_of}
+use Rattle.icescan_audit_findings.specs.Spelling.{odd_spelling}
 
 -- the file of a live entry of a row's manifest
 abbrev pub live_file : Basis → Row → Entry → LiveFile
-live_file basis row x = record { path = x.file.path; manifest = row.path; key = key_of basis x }
+live_file basis row x = record {
+  path = x.file.path;
+  spelling = odd_spelling x.file.path;
+  manifest = row.path;
+  key = key_of basis x;
+}
 
 abbrev pub live_files : Basis → Row → List Live → List LiveFile
 live_files basis row lives = map (λ (l : Live). live_file basis row l.entry) lives
 
+-- the spelling of its path by which it is told from others
+abbrev pub spelling_of : LiveFile → List ℕ
+spelling_of x = unwrap_or x.spelling x.path
+
 -- by their paths
 abbrev pub path_before : LiveFile → LiveFile → Bool
-path_before a b = is_lt (slice_cmp nat_cmp a.path b.path)
+path_before a b = is_lt (slice_cmp nat_cmp (spelling_of a) (spelling_of b))
 
--- two files have one path
+-- two files have one path, in one spelling or in two
 abbrev pub has_path_of : LiveFile → LiveFile → Bool
-has_path_of a b = bytes_eq a.path b.path
+has_path_of a b = bytes_eq (spelling_of a) (spelling_of b)
 
 -- the finding that a file has the path of another
 abbrev pub repeat_of : LiveFile → Finding
@@ -38,7 +48,7 @@ repeat_where found x = if found then repeat_of x ∷ [] else []
 -- of files by path: those that have the path of the one before
 abbrev pub repeats_behind : LiveFile → List LiveFile → List Finding
 repeats_behind x [] = []
-repeats_behind x (y ∷ ys) = repeat_where (bytes_eq x.path y.path) y ++ repeats_behind y ys
+repeats_behind x (y ∷ ys) = repeat_where (has_path_of x y) y ++ repeats_behind y ys
 
 abbrev pub repeats_in : List LiveFile → List Finding
 repeats_in [] = []

@@ -1,18 +1,21 @@
 //! What a manifest says of the columns of a file and what can't be.
 
-ghost use Rattle.std.specs.Prelude.{◌≡◌, ◌++◌, ◌&&◌, ◌||◌, true, is_some, IfOk, IfSome, OnOk, Some};
+ghost use Rattle.std.specs.Prelude.{◌≡◌, ◌++◌, ◌&&◌, ◌||◌, not, true, is_some, IfOk, IfSome, OnOk, Some};
+ghost use Rattle.std.specs.Cmp.Lexicographic.{slice_cmp};
 ghost use Rattle.std.specs.Option.{option_copied};
+ghost use Rattle.std.specs.Ordering.{is_gt, nat_cmp};
 ghost use Rattle.icescan_audit_findings.specs.ColumnFlaws.{column_flaws, columns_flaws, cross, is_more, is_past};
 ghost use Rattle.icescan_audit_findings.specs.ColumnFlaws.{count_flaws_of, is_less_than_none};
 ghost use Rattle.ice_project.specs.Files.{same_count};
 ghost use Rattle.icescan_audit_findings.specs.ColumnsSaid.{AreMapsOf, AreSaidOf, IsSaidOf, SaysLittle};
+ghost use Rattle.icescan_audit_findings.specs.ColumnsSaid.{is_of_bytes};
+ghost use Rattle.icescan_audit_findings.specs.Flaws.{flaw_where};
 ghost use Rattle.icescan_audit_findings.specs.Ids.{Rises};
 ghost use Rattle.ice_project.specs.Limits.{limit};
 ghost use Rattle.ice_value.specs.declared.file_bounds.FileBounds.{FileBounds};
 
 use crate::basis::TypedColumn;
 use crate::finding::{ColumnFlaw, Flaw};
-use crate::flaws::push_where;
 use crate::ids::{last_said, place_near};
 use crate::pairs::RisingPairs;
 use ice_value::{ColumnType, FileBounds, compare_bound, read_bound};
@@ -116,8 +119,33 @@ fn column_said<'a>(
     }
 }
 
-/// Whether a lower bound is above an upper one, where both hold a value of the type. Bounds of UUIDs are not read.
-fn is_past(
+/// Whether values of the type are texts or byte strings, which stand in the order of the bytes of their bounds.
+fn is_of_bytes(column_type: &ColumnType) -> bool
+    ensures { result ≡ is_of_bytes column_type.now }
+{
+    matches!(
+        column_type,
+        ColumnType::String | ColumnType::Fixed(_) | ColumnType::Binary
+    )
+}
+
+/// Whether the first bytes come behind the others.
+fn is_behind(low: &[u8], high: &[u8]) -> bool
+    ensures { result ≡ is_gt (slice_cmp nat_cmp low.now high.now) }
+{
+    matches!(low.cmp(high), Ordering::Greater)
+}
+
+/// Whether the bytes of bounds tell that the lower one is not above the upper one, without reading a value.
+fn are_in_order(column_type: &ColumnType, low: &[u8], high: &[u8]) -> bool
+    ensures { result ≡ (is_of_bytes column_type.now && not (is_gt (slice_cmp nat_cmp low.now high.now))) }
+{
+    is_of_bytes(column_type) && !is_behind(low, high)
+}
+
+/// Whether a lower bound is above an upper one, where both hold a value of the type, as they are read. Bounds of UUIDs
+/// are not.
+fn is_past_as_read(
     alloc: Global,
     column_type: &ColumnType,
     low: &[u8],
@@ -136,6 +164,22 @@ fn is_past(
         )),
         None => Ok(false),
     }
+}
+
+/// The same; where their bytes tell it they are not read.
+fn is_past(
+    alloc: Global,
+    column_type: &ColumnType,
+    low: &[u8],
+    high: &[u8],
+) -> Result<bool, AllocError>
+    ensures { IfOk result (λ past. past
+        ≡ is_past (limit column_type.now (Some low.now)) (limit column_type.now (Some high.now))) }
+{
+    if are_in_order(column_type, low, high) {
+        return Ok(false);
+    }
+    is_past_as_read(alloc, column_type, low, high)
 }
 
 /// Whether a column's lower bound is above its upper one.
@@ -200,6 +244,41 @@ fn has_bounds_of_nulls(said: &ColumnSaid<'_>) -> bool
         && (said.lower_bound.is_some() || said.upper_bound.is_some())
 }
 
+/// Puts last that a column's bounds cross, where they do.
+fn push_cross(flaws: &mut Vec<Flaw>, found: bool, column: i32) -> Result<(), AllocError>
+    ensures { OnOk result (flaws.new.items ≡ flaws.old.items ++ flaw_where found (Flaw.BoundsCross column)) }
+{
+    if found {
+        flaws.push(Flaw::BoundsCross(column))?;
+    }
+    Ok(())
+}
+
+/// Puts last that a column has more nulls than values, where it has.
+fn push_excess(flaws: &mut Vec<Flaw>, found: bool, column: i32) -> Result<(), AllocError>
+    ensures { OnOk result (flaws.new.items ≡ flaws.old.items ++ flaw_where found (Flaw.ExcessNulls column)) }
+{
+    if found {
+        flaws.push(Flaw::ExcessNulls(column))?;
+    }
+    Ok(())
+}
+
+/// Puts a flaw of a column last, where it was found.
+fn push_of_column(
+    flaws: &mut Vec<Flaw>,
+    found: bool,
+    flaw: ColumnFlaw,
+    column: i32,
+) -> Result<(), AllocError>
+    ensures { OnOk result (flaws.new.items ≡ flaws.old.items ++ flaw_where found (Flaw.OfColumn flaw column)) }
+{
+    if found {
+        flaws.push(Flaw::OfColumn(flaw, column))?;
+    }
+    Ok(())
+}
+
 /// Puts what is wrong with the counts of a column last, that are below 0 or are those of nulls alone beside a bound.
 fn push_count_flaws(
     flaws: &mut Vec<Flaw>,
@@ -211,17 +290,8 @@ fn push_count_flaws(
 {
     let negative = has_negative_counts(said);
     let of_nulls = has_bounds_of_nulls(said);
-    push_where(
-        flaws,
-        negative,
-        Flaw::OfColumn(ColumnFlaw::NegativeCounts, column.id),
-    )?;
-    push_where(
-        flaws,
-        of_nulls,
-        Flaw::OfColumn(ColumnFlaw::BoundsOfNulls, column.id),
-    )?;
-    Ok(())
+    push_of_column(flaws, negative, ColumnFlaw::NegativeCounts, column.id)?;
+    push_of_column(flaws, of_nulls, ColumnFlaw::BoundsOfNulls, column.id)
 }
 
 /// Puts what is wrong with what is said of a column last.
@@ -241,8 +311,8 @@ fn push_column_flaws(
         said.upper_bound,
     )?;
     let excess = has_excess(said.null_count, said.value_count);
-    push_where(flaws, cross, Flaw::BoundsCross(column.id))?;
-    push_where(flaws, excess, Flaw::ExcessNulls(column.id))?;
+    push_cross(flaws, cross, column.id)?;
+    push_excess(flaws, excess, column.id)?;
     push_count_flaws(flaws, column, said)
 }
 

@@ -14,6 +14,7 @@ use crate::counts::count_flaws;
 use crate::examined::{Examined, examine};
 use crate::finding::{Finding, Flaw};
 use crate::repeats::LiveFile;
+use crate::spelling::odd_spelling;
 use contract_words::{Items, Text};
 use ice_manifest_reading::{ManifestFault, Row};
 use ice_meta::Spec;
@@ -108,8 +109,10 @@ fn push_entries(
             path.as_slice(),
             flaws.into_vec(),
         )?;
+        let spelling = odd_spelling(alloc, path.as_slice())?;
         files.push(LiveFile {
             path,
+            spelling,
             manifest: manifest.share()?,
             key,
         })?;

@@ -77,7 +77,7 @@ pub enum Flaw {
     BelowLeast,
     /// The entry's sequence number is above the table's last.
     AboveLast,
-    /// Another live file has the file's path.
+    /// Another live file has the file's path, in the same spelling or in another that a store may take for it.
     LiveTwice,
     /// The file deletes by a column of this id, which the schema lacks.
     NoColumn(i32),

@@ -59,7 +59,7 @@ pub fn findings_tell_coverage()
     contents_fit();
 }
 
-/// There is no finding that a path is live twice just where no live file has the path of another.
+/// There is no finding that a path is live twice just where no live file has the path of another, in any spelling.
 pub fn repeats_tell_paths_apart()
     ensures { (files : List LiveFile) → repeats files ≡ [] ↔ IsDistinct has_path_of files }
 {}

@@ -19,6 +19,7 @@ mod limits;
 mod pairs;
 mod repeats;
 mod rows;
+mod spelling;
 
 pub use basis::{Basis, TypedColumn};
 pub use deletes::push_delete_findings;

@@ -4,11 +4,11 @@ use Rattle.std.proofs.lemmas.List.Sorted.{answers_always, ranks_by}
 use Rattle.std.specs.Cmp.{IsStrictWeakOrder}
 use Rattle.contract_words.proofs.Sorted.{sorted_from_sort}
 use Rattle.icescan_audit_findings.specs.declared.repeats.LiveFile.{LiveFile}
-use Rattle.icescan_audit_findings.specs.Repeats.{path_before}
+use Rattle.icescan_audit_findings.specs.Repeats.{path_before, spelling_of}
 use Rattle.icescan_audit_findings.proofs.repeats.sort_by_path.Goals as goal
 
 order : IsStrictWeakOrder path_before
-order = ranks_by nat_list_cmp_total (λ (a : LiveFile). a.path)
+order = ranks_by nat_list_cmp_total spelling_of
 
 pub returns : goal.returns
 returns c =
