@@ -183,9 +183,9 @@ pub fn take_by_workers<R: Threads + Sync, F: Files + Sync, G: Gate + Sync>(
     Ok((state, left))
 }
 
-/// The plan of a scan by so many workers, from 1 to 64. They read and take its manifests at once, and try each that
-/// fails up to three times; those that they leave are taken after them, in the order of their paths. At most 65,536
-/// manifests may be wanted.
+/// The plan of a scan by so many workers, from 1 to 64, or by fewer where they would take much memory for its filter.
+/// They read and take its manifests at once, and try each that fails up to three times; those that they leave are taken
+/// after them, in the order of their paths. At most 65,536 manifests may be wanted.
 ///
 /// Whatever the number of workers, and whichever takes what: the plan is that of the state in which every wanted
 /// manifest was taken, and so is the fault, `Finish`, that keeps this from being one. The other refusals are `Absent`
@@ -232,6 +232,7 @@ pub fn plan_scan<R: Threads + Sync, F: Files + Sync, G: Gate + Sync>(
     if workers == 0 || workers > MOST_WORKERS {
         return Err(PlanFault::Workers);
     }
+    let workers = scan.workers(workers);
     let (mut state, _) = take_by_workers(rt, alloc, files, scan, workers, gate)?;
     take_wanted(alloc, files, scan, &mut state)?;
     let plan = state.into_plan(scan)?;

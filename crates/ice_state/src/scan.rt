@@ -1,6 +1,6 @@
 //! What a scan reads: the rows that it wants, and what they are read by.
 
-ghost use Rattle.std.specs.Prelude.{◌≡◌, ◌<◌, ◌↔◌, [], length, OnOk, Some, MatchResult, IfOk, IsTrue};
+ghost use Rattle.std.specs.Prelude.{◌≡◌, ◌<◌, ◌≤◌, ◌↔◌, [], length, OnOk, Some, MatchResult, IfOk, IsTrue};
 ghost use Rattle.contract_words.specs.Outcome.{Gives};
 ghost use Rattle.ice_state.specs.Parts.{spec_at, NamesFirst};
 ghost use Rattle.ice_state.specs.Pruning.{pruner_of};
@@ -11,6 +11,7 @@ pub mod room;
 
 use crate::fault::ScanFault;
 use crate::scan::pruning::{Pruning, SpecFilter};
+use crate::scan::room::MOST_MADE;
 use ice_filter::Bound;
 use ice_manifest_reading::Row;
 use ice_meta::Spec;
@@ -64,6 +65,36 @@ impl Scan {
         ensures { result.now ≡ self.now.wanted }
     {
         &self.wanted
+    }
+
+    /// The bytes of the largest projection that is made where a manifest is read, about.
+    fn most_made(&self) -> usize {
+        let mut most: usize = 0;
+        'rows: for row in &self.wanted {
+            let made = self.pruning.bytes_made(row);
+            if made > most {
+                most = made;
+            }
+        }
+        most
+    }
+
+    /// Of so many workers, how many may take manifests at once: each makes the projections that are not held, so that
+    /// they are few where these are large.
+    pub fn workers(&self, most: usize) -> usize
+        requires { 0 < most }
+        ensures few { result ≤ most }
+        ensures some { 0 < result }
+    {
+        let made = self.most_made();
+        if made == 0 {
+            return most;
+        }
+        let few = MOST_MADE / made;
+        if few == 0 {
+            return 1;
+        }
+        if few < most { few } else { most }
     }
 
     /// Whether the other scan wants the same rows.

@@ -196,6 +196,18 @@ impl Pruning {
         Ok(())
     }
 
+    /// How many bytes the projection takes that is made where the row's manifest is read, about: none where it is held.
+    pub(crate) fn bytes_made(&self, row: &Row) -> usize {
+        let at = place_of(&self.specs, row);
+        if let Some(Some(_)) = self.parts.get(at) {
+            return 0;
+        }
+        match self.specs.get(at) {
+            Some(spec) => spec.fields.as_slice().len().saturating_mul(self.bytes),
+            None => 0,
+        }
+    }
+
     /// Whether the row's manifest has to be read.
     pub(crate) fn wants(&mut self, alloc: Global, row: &Row) -> Result<bool, AllocError>
         ensures wanted { IfOk result (λ wanted. wanted ≡ (pruner_of self.old.filter self.old.specs).wants row.now) }

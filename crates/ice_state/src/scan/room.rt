@@ -6,6 +6,9 @@ use ice_value::Cell;
 /// So many bytes of projections are held: more than those of a filter and a table that were not made to be large.
 pub(crate) const MOST_HELD: usize = 48 << 20;
 
+/// So many bytes of projections that are not held may be made at once.
+pub(crate) const MOST_MADE: usize = 24 << 20;
+
 /// What a literal takes without its bytes, and what a test takes without its literals.
 const SMALL: usize = 32;
 
