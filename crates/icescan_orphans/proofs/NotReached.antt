@@ -7,7 +7,7 @@ use Rattle.std.proofs.lemmas.List.{length-append}
 use Rattle.std.proofs.lemmas.List.Elements.{Contains-append_left}
 use Rattle.ice_desk.specs.Given.{Giving}
 use Rattle.icescan_orphans.specs.NotReached.{AreNotReached}
-use Rattle.icescan_orphans.specs.Told.{front_of, path_told}
+use Rattle.icescan_parts.specs.Told.{front_of, path_told}
 use Rattle.icescan_paths.proofs.Unknown.{mapped, no_known}
 use Rattle.icescan_print.proofs.Escapes.{back}
 use Rattle.icescan_print.specs.Escaping.{escaped, unescaped}

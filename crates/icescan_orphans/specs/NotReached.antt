@@ -4,7 +4,7 @@ use Rattle.std.specs.List.{Contains}
 use Rattle.ice_desk.specs.Given.{AreOf, Giving}
 use Rattle.ice_meta.specs.Targets.{Described}
 use Rattle.ice_state.specs.Contents.{World}
-use Rattle.icescan_orphans.specs.Told.{path_told}
+use Rattle.icescan_parts.specs.Told.{path_told}
 use Rattle.icescan_paths.specs.Spelling.{plain}
 use Rattle.icescan_paths.specs.Strays.{strays}
 use Rattle.icescan_paths.specs.declared.aged.AgedFile.{AgedFile}

@@ -1,8 +1,8 @@
 -- The lines of the files below a folder that a table does not reach, of bytes that reads gave.
 use Rattle.std.specs.Prelude.{◌≡◌, ℕ, List, [], ◌∷◌, ◌++◌, codes, map, Option}
-use Rattle.std.specs.List.{flat_map}
 use Rattle.ice_desk.specs.Given.{Giving}
-use Rattle.icescan_orphans.specs.Told.{path_told}
+use Rattle.icescan_forms.specs.declared.format.Format.{Format}
+use Rattle.icescan_parts.specs.Told.{lines_in, path_told}
 use Rattle.icescan_paths.specs.Strays.{strays}
 use Rattle.icescan_paths.specs.declared.aged.AgedFile.{AgedFile}
 use Rattle.icescan_paths.specs.declared.aged.Stray.{Stray}
@@ -20,8 +20,8 @@ stray_word kind.Doubtful = codes "doubtful "
 abbrev pub stray_line : Stray → List ℕ
 stray_line stray = named_path (stray_word stray.kind) stray.path ++ 10 ∷ []
 
-abbrev pub strays_text : List Stray → List ℕ
-strays_text found = flat_map stray_line found
+abbrev pub stray_lines : List Stray → List (List ℕ)
+stray_lines found = map stray_line found
 
 -- Of some files, those that are none of the files that the metadata at a path reaches; more paths may be known.
 pub record AreStraysGiven (gives : Giving) (older : ℕ) (path : List ℕ) (left : List Stray) : Type 0 where
@@ -31,7 +31,7 @@ pub record AreStraysGiven (gives : Giving) (older : ℕ) (path : List ℕ) (left
   pub reached : AreLinesGivenAt gives path lines
   pub are : left ≡ strays (map path_told lines ++ more) older found
 
--- what was written is the text of such lines
-abbrev pub WroteStrays : Giving → ℕ → List ℕ → Option (List ℕ) → Option (List ℕ) → Type 0
-WroteStrays gives older path output output' =
-    (left : List Stray) × AreStraysGiven gives older path left × Appends output output' (strays_text left)
+-- what was written are such lines in a form
+abbrev pub WroteStrays : Giving → Format → ℕ → List ℕ → Option (List ℕ) → Option (List ℕ) → Type 0
+WroteStrays gives form older path output output' = (left : List Stray) × AreStraysGiven gives older path left
+    × Appends output output' (lines_in form (stray_lines left))

@@ -1,9 +1,9 @@
 -- The statistics that stay have their lines.
-use Rattle.std.proofs.Common.{◌≡◌, ℕ, ℤ, Bool, true, false, List, [], ◌∷◌, ◌++◌, Option, None, Some, ap, inl, inr}
-use Rattle.std.proofs.Common.{if◌then◌else◌, subst, sym, ◌∙◌}
+use Rattle.std.proofs.Common.{◌≡◌, ◌⊎◌, ℕ, ℤ, Bool, true, false, List, [], ◌∷◌, ◌++◌, Option, None, Some, ap, inl}
+use Rattle.std.proofs.Common.{if◌then◌else◌, inr, refl, subst, sym, ◌∙◌}
 use Rattle.std.specs.Prelude.{codes, option_map}
 use Rattle.std.specs.List.{Contains}
-use Rattle.std.proofs.lemmas.List.Elements.{Contains-append_left, Contains-push}
+use Rattle.std.proofs.lemmas.List.Elements.{Contains-append_left, Contains-push, Contains-push_cases}
 use Rattle.std.proofs.lemmas.Option.{option_and_then_some, same_Some}
 use Rattle.serde_json.specs.Data as json
 use Rattle.serde_json.specs.Data.{Data, Items}
@@ -38,7 +38,67 @@ item_tells lines next file false (Some p) is stays at =
     (subst (λ (q : List ℕ). Contains (lines ++ line kind.Statistics q ∷ []) (line kind.Statistics file))
     (sym (same_Some p file at)) (Contains-push lines (line kind.Statistics file)))
 
+item_only : (lines next : List (List ℕ)) (text : List ℕ) (goes : Bool) (path : Option (List ℕ))
+    → behind lines goes path ≡ Some next → Contains next text
+    → Contains lines text
+    ⊎ ((goes ≡ false) × (file : List ℕ) × (path ≡ Some file) × (text ≡ line kind.Statistics file))
+item_only lines next text true path is h =
+    inl (subst (λ (x : List (List ℕ)). Contains x text) (sym (same_Some lines next is)) h)
+item_only lines next text false None is h = absurd cc
+item_only lines next text false (Some p) is h =
+    elim (Contains-push_cases lines (line kind.Statistics p) text (subst (λ (x : List (List ℕ)). Contains x text)
+    (sym (same_Some (lines ++ line kind.Statistics p ∷ []) next is)) h))
+    as (λ _. Contains lines text
+    ⊎ ((false ≡ false) × (file : List ℕ) × (Some p ≡ Some file) × (text ≡ line kind.Statistics file)))
+    [ inl i ↦ inl i | inr e ↦ inr (refl, p, refl, sym e) ]
+
 module _ (gone : List ℤ) where
+  -- a line is one of those before, or that of statistics that are named and stay
+  abbrev OfItems : Items → List (List ℕ) → List ℕ → Type 0
+  OfItems items lines text = Contains lines text
+      ⊎ ((file : List ℕ) × NamesKept gone items file × (text ≡ line kind.Statistics file))
+
+  of_item : (item : Data) (items : Items) (lines next : List (List ℕ)) (text : List ℕ)
+      → item_behind gone lines item ≡ Some next → OfItems items next text → OfItems (json.item item items) lines text
+  of_item item items lines next text at (inl h) =
+      elim (item_only lines next text (names_gone gone item) (path_in (codes "statistics-path") item) at h)
+      as (λ _. OfItems (json.item item items) lines text)
+      [ inl i ↦ inl i | inr w ↦ inr (w.1, inl (w.0, w.2), w.3) ]
+  of_item item items lines next text at (inr w) = inr (w.0, inr w.1, w.2)
+
+  items_only : (items : Items) (lines out : List (List ℕ)) (text : List ℕ)
+      → items_kept gone lines items ≡ Some out → Contains out text → OfItems items lines text
+  items_only json.no_items lines out text is h =
+      inl (subst (λ (x : List (List ℕ)). Contains x text) (sym (same_Some lines out is)) h)
+  items_only (json.item item items) lines out text is h =
+      option_and_then_some (λ more. items_kept gone more items) (item_behind gone lines item) out is
+      (λ next at rest. of_item item items lines next text at (items_only items next out text rest h))
+
+  abbrev OfArray : Option Data → List (List ℕ) → List ℕ → Type 0
+  OfArray found lines text = Contains lines text ⊎ ((file : List ℕ)
+      × ((items : Items) × (found ≡ Some (json.array items)) × NamesKept gone items file)
+      × (text ≡ line kind.Statistics file))
+
+  array_only : (found : Option Data) (lines out : List (List ℕ)) (text : List ℕ)
+      → array_kept gone lines found ≡ Some out → Contains out text → OfArray found lines text
+  array_only None lines out text is h =
+      inl (subst (λ (x : List (List ℕ)). Contains x text) (sym (same_Some lines out is)) h)
+  array_only (Some json.null) lines out text is h =
+      inl (subst (λ (x : List (List ℕ)). Contains x text) (sym (same_Some lines out is)) h)
+  array_only (Some (json.array items)) lines out text is h =
+      elim (items_only items lines out text is h) as (λ _. OfArray (Some (json.array items)) lines text)
+      [ inl i ↦ inl i | inr w ↦ inr (w.0, (items, refl, w.1), w.2) ]
+  array_only (Some (json.boolean b)) lines out text is h = absurd cc
+  array_only (Some (json.number n)) lines out text is h = absurd cc
+  array_only (Some (json.string s)) lines out text is h = absurd cc
+  array_only (Some (json.object m)) lines out text is h = absurd cc
+
+  pub statistics_only : (array : List ℕ) (metadata : Data) (lines out : List (List ℕ)) (text : List ℕ)
+      → statistics_kept gone array metadata lines ≡ Some out → Contains out text
+      → Contains lines text
+      ⊎ ((file : List ℕ) × IsKept gone array metadata file × (text ≡ line kind.Statistics file))
+  statistics_only array metadata lines out text is h = array_only (get array metadata) lines out text is h
+
   items_keep : (items : Items) (lines out : List (List ℕ)) (text : List ℕ)
       → items_kept gone lines items ≡ Some out → Contains lines text → Contains out text
   items_keep json.no_items lines out text is h =

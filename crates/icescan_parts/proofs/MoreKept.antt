@@ -3,6 +3,7 @@ use Rattle.std.proofs.Common.{ℕ, ℤ, List, [], Option}
 use Rattle.ice_desk.specs.Given.{Giving}
 use Rattle.icescan_parts.specs.Gone.{kept}
 use Rattle.ice_meta.specs.Targets.{Described}
+use Rattle.icescan_forms.specs.declared.format.Format.{Format}
 use Rattle.icescan_forms.specs.declared.part.Part.{Part}
 use Rattle.icescan_forms.specs.declared.part.Part.TheVariants as part
 use Rattle.icescan_parts.specs.Kept.{AreLinesKept, AreLinesKeptAt, AreLinesLetGoAt, WrotePart}
@@ -50,11 +51,11 @@ module _ (gives more : Giving) (wider : (path : List ℕ) (found : Option (List 
   }
 
 pub more_part : (gives more : Giving) → ((path : List ℕ) (found : Option (List ℕ)) → gives path found → more path found)
-    → (part : Part) (path : List ℕ) (output output' : Option (List ℕ)) → WrotePart gives part path output output'
-    → WrotePart more part path output output'
-more_part gives more wider part.All path output output' (lines, given, text) =
+    → (form : Format) (part : Part) (path : List ℕ) (output output' : Option (List ℕ))
+    → WrotePart gives form part path output output' → WrotePart more form part path output output'
+more_part gives more wider form part.All path output output' (lines, given, text) =
     (lines, more_lines gives more wider path lines given, text)
-more_part gives more wider (part.Only snapshots) path output output' (gone, list, lines, given, text) =
+more_part gives more wider form (part.Only snapshots) path output output' (gone, list, lines, given, text) =
     (gone, list, lines, more_let_go gives more wider gone path lines given, text)
-more_part gives more wider (part.Without snapshots) path output output' (gone, list, lines, given, text) =
+more_part gives more wider form (part.Without snapshots) path output output' (gone, list, lines, given, text) =
     (gone, list, lines, more_kept gives more wider gone path lines given, text)

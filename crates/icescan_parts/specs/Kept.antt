@@ -2,6 +2,7 @@
 -- bytes that reads gave.
 use Rattle.std.specs.Prelude.{◌≡◌, ℕ, ℤ, List, [], ◌++◌, codes, Option, Some, Ok}
 use Rattle.ice_desk.specs.Given.{Giving}
+use Rattle.icescan_forms.specs.declared.format.Format.{Format}
 use Rattle.icescan_forms.specs.declared.part.Part.{Part}
 use Rattle.icescan_forms.specs.declared.part.Part.TheVariants as part
 use Rattle.ice_manifest_reading.specs.declared.row.Row.{Row}
@@ -9,10 +10,11 @@ use Rattle.ice_meta.specs.Targets.{Described, metadata_of}
 use Rattle.icescan_parts.specs.Alone.{alone}
 use Rattle.icescan_parts.specs.Gone.{kept, own_kept}
 use Rattle.icescan_parts.specs.Ids.{listed}
+use Rattle.icescan_parts.specs.Told.{lines_in}
 use Rattle.icescan_print.specs.Written.{Appends}
-use Rattle.icescan_reachable.specs.Given.{AreLinesGiven, AreManifestsBehind, AreRowsBehind, WroteReached}
+use Rattle.icescan_reachable.specs.Given.{AreLinesGiven, AreLinesGivenAt, AreManifestsBehind, AreRowsBehind}
 use Rattle.icescan_reachable.specs.Given.{lists_behind}
-use Rattle.icescan_reachable.specs.Lines.{lines_text, once_in_order}
+use Rattle.icescan_reachable.specs.Lines.{once_in_order}
 
 module _ (gives : Giving) (gone : List ℤ) (path : List ℕ) where
   -- The lines of the files that this metadata reaches, which is at the path, without the snapshots that go: in the
@@ -52,18 +54,22 @@ module _ (gives : Giving) (gone : List ℤ) (path : List ℕ) where
     pub says : metadata_of bytes ≡ Ok metadata
     pub are : AreLinesLetGo metadata lines
 
-module _ (gives : Giving) where
-  -- What was written is the text of such lines. A text lists the snapshots that go.
+module _ (gives : Giving) (form : Format) where
+  -- What was written are such lines in a form. A text lists the snapshots that go.
+  abbrev pub WroteAll : List ℕ → Option (List ℕ) → Option (List ℕ) → Type 0
+  WroteAll path output output' =
+      (lines : List (List ℕ)) × AreLinesGivenAt gives path lines × Appends output output' (lines_in form lines)
+
   abbrev pub WroteKept : List ℕ → List ℕ → Option (List ℕ) → Option (List ℕ) → Type 0
   WroteKept snapshots path output output' = (gone : List ℤ) × (listed gone ≡ codes "," ++ snapshots)
-      × (lines : List (List ℕ)) × AreLinesKeptAt gives gone path lines × Appends output output' (lines_text lines)
+      × (lines : List (List ℕ)) × AreLinesKeptAt gives gone path lines × Appends output output' (lines_in form lines)
 
   abbrev pub WroteLetGo : List ℕ → List ℕ → Option (List ℕ) → Option (List ℕ) → Type 0
   WroteLetGo snapshots path output output' = (gone : List ℤ) × (listed gone ≡ codes "," ++ snapshots)
-      × (lines : List (List ℕ)) × AreLinesLetGoAt gives gone path lines × Appends output output' (lines_text lines)
+      × (lines : List (List ℕ)) × AreLinesLetGoAt gives gone path lines × Appends output output' (lines_in form lines)
 
   -- the part that is asked for of what the metadata at a path reaches
   abbrev pub WrotePart : Part → List ℕ → Option (List ℕ) → Option (List ℕ) → Type 0
-  WrotePart part.All path output output' = WroteReached gives path output output'
+  WrotePart part.All path output output' = WroteAll path output output'
   WrotePart (part.Only snapshots) path output output' = WroteLetGo snapshots path output output'
   WrotePart (part.Without snapshots) path output output' = WroteKept snapshots path output output'

@@ -12,6 +12,7 @@ use Rattle.icescan_parts.specs.Alone.{alone}
 use Rattle.icescan_parts.specs.Gone.{kept, names_gone}
 use Rattle.icescan_parts.specs.Kept.{AreLinesKept}
 use Rattle.icescan_parts.specs.Parts.{Tells}
+use Rattle.icescan_reachable.specs.Lines.{line}
 use Rattle.icescan_reachable.specs.Named.{path_in}
 use Rattle.icescan_reachable.specs.Reaches.{Reaches}
 use Rattle.icescan_reachable.specs.declared.kind.FileKind.{FileKind}
@@ -41,6 +42,12 @@ module _ (gives : Giving) (gone : List ℤ) (metadata : Described) (own : List �
   Stays kind.Delete path = Reaches gives (thinned gone metadata) own kind.Delete path
   Stays kind.Statistics path = IsKept gone (codes "statistics") metadata.json path
       ⊎ IsKept gone (codes "partition-statistics") metadata.json path
+
+-- each line of what stays is that of a file that stays
+abbrev pub TellsOnlyKept : Giving → Type 0
+TellsOnlyKept gives = (gone : List ℤ) (path : List ℕ) (metadata : Described) (rest : List (List ℕ)) (text : List ℕ)
+    → AreLinesKept gives gone path metadata rest → Contains rest text
+    → (kind : FileKind) × (file : List ℕ) × Stays gives gone metadata path kind file × (text ≡ line kind file)
 
 -- where reads give what a world has, each file that stays has its line, and is none of those that are let go
 abbrev pub TellsAllKept : Giving → Type 0

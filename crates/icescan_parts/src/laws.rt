@@ -1,7 +1,7 @@
 //! What the parts come to.
 
 ghost use Rattle.icescan_parts.specs.Parts.{AreApart, AreNoMore, AreTogether};
-ghost use Rattle.icescan_parts.specs.Stays.{LetsGoNoneKept, TellsAllKept};
+ghost use Rattle.icescan_parts.specs.Stays.{LetsGoNoneKept, TellsAllKept, TellsOnlyKept};
 
 use ice_desk::Files;
 
@@ -13,9 +13,10 @@ pub fn parts_are_apart()
     ensures no_more { AreNoMore }
 {}
 
-/// Where reads give what a world has, each file that is reached without some snapshots has its line among those that
-/// stay, and is none of those that are let go.
+/// Each line of those that stay is that of a file that is reached without some snapshots. Where reads give what a world
+/// has, each such file has its line among them, and is none of those that are let go.
 pub fn none_let_go_is_needed<F: Files>(files: &F)
+    ensures only { TellsOnlyKept (F.gives files.now) }
     ensures kept { TellsAllKept (F.gives files.now) }
     ensures let_go { LetsGoNoneKept (F.gives files.now) }
 {}

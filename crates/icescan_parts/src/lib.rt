@@ -9,7 +9,9 @@ mod laws;
 mod named;
 mod running;
 mod snapshots;
+mod told;
 
 pub use apart::path_of;
 pub use laws::{none_let_go_is_needed, parts_are_apart};
 pub use running::part_file;
+pub use told::{lines_in, path_told};

@@ -1,18 +1,20 @@
 //! The files of a table by its snapshots, over any files.
 
 ghost use Rattle.std.specs.Prelude.{◌≡◌, ◌≢◌, IfErr, IfOk, IsErrOf, OnOk};
-ghost use Rattle.icescan_parts.specs.Kept.{AreLinesKeptAt, AreLinesLetGoAt, WroteKept, WroteLetGo, WrotePart};
+ghost use Rattle.icescan_parts.specs.Kept.{AreLinesKeptAt, AreLinesLetGoAt, WroteAll, WroteKept, WroteLetGo};
+ghost use Rattle.icescan_parts.specs.Kept.{WrotePart};
 ghost use Rattle.icescan_text.specs.declared.fault.RunFault.{RunFault};
 
 use crate::ids::ids_in;
 use crate::kept::{lines_kept, lines_let_go};
 use crate::snapshots::find_all;
+use crate::told::lines_in;
 use contract_words::{Items, Text};
 use ice_desk::Files;
 use ice_meta::Metadata;
-use icescan_forms::Part;
+use icescan_forms::{Format, Part};
 use icescan_print::{Sink, write_all};
-use icescan_reachable::{reachable_file, text_of};
+use icescan_reachable::lines_at;
 use icescan_text::{RunFault, read_file};
 use std::alloc::Global;
 
@@ -48,46 +50,66 @@ fn let_go_at<F: Files>(
     lines_let_go(alloc, files, gone, path, &metadata)
 }
 
-/// Writes a line for each file that the metadata at a path reaches without some of its snapshots.
+/// Writes, in a form, a line for each file that the metadata at a path reaches.
+fn all_file<F: Files, W: Sink>(
+    alloc: Global,
+    files: &F,
+    format: Format,
+    path: &str,
+    output: &mut W,
+) -> Result<(), RunFault>
+    ensures nothing { IfErr result (λ fault. fault ≢ RunFault.Write → W.taken output.new ≡ W.taken output.old) }
+    ensures given { OnOk result (WroteAll (F.gives files.now) format path.now (W.taken output.old)
+        (W.taken output.new)) }
+{
+    let lines = lines_at(alloc, files, path)?;
+    let text = lines_in(alloc, format, &lines)?;
+    write_all(output, &text)?;
+    Ok(())
+}
+
+/// Writes, in a form, a line for each file that the metadata at a path reaches without some of its snapshots.
 fn without_file<F: Files, W: Sink>(
     alloc: Global,
     files: &F,
+    format: Format,
     snapshots: &Text,
     path: &str,
     output: &mut W,
 ) -> Result<(), RunFault>
     ensures nothing { IfErr result (λ fault. fault ≢ RunFault.Write → W.taken output.new ≡ W.taken output.old) }
-    ensures given { OnOk result (WroteKept (F.gives files.now) snapshots.now path.now (W.taken output.old)
+    ensures given { OnOk result (WroteKept (F.gives files.now) format snapshots.now path.now (W.taken output.old)
         (W.taken output.new)) }
 {
     let gone = ids_in(alloc, snapshots.as_str())?;
     let lines = kept_at(alloc, files, &gone, path)?;
-    let text = text_of(alloc, &lines)?;
+    let text = lines_in(alloc, format, &lines)?;
     write_all(output, &text)?;
     Ok(())
 }
 
-/// Writes a line for each file that of the metadata at a path some of its snapshots alone reach.
+/// Writes, in a form, a line for each file that of the metadata at a path some of its snapshots alone reach.
 fn only_file<F: Files, W: Sink>(
     alloc: Global,
     files: &F,
+    format: Format,
     snapshots: &Text,
     path: &str,
     output: &mut W,
 ) -> Result<(), RunFault>
     ensures nothing { IfErr result (λ fault. fault ≢ RunFault.Write → W.taken output.new ≡ W.taken output.old) }
-    ensures given { OnOk result (WroteLetGo (F.gives files.now) snapshots.now path.now (W.taken output.old)
+    ensures given { OnOk result (WroteLetGo (F.gives files.now) format snapshots.now path.now (W.taken output.old)
         (W.taken output.new)) }
 {
     let gone = ids_in(alloc, snapshots.as_str())?;
     let lines = let_go_at(alloc, files, &gone, path)?;
-    let text = text_of(alloc, &lines)?;
+    let text = lines_in(alloc, format, &lines)?;
     write_all(output, &text)?;
     Ok(())
 }
 
-/// Writes a line for each file of the part that is asked for of what the metadata at a path reaches: of all, as
-/// `reachable_file` does; of what stays reached without some of its snapshots, where the metadata and its log stay and
+/// Writes, in a form, a line for each file of the part that is asked for of what the metadata at a path reaches: of all,
+/// as `reachable_file` does; of what stays reached without some of its snapshots, where the metadata and its log stay and
 /// statistics go with their snapshot; or of the rest, which these snapshots alone reach: what expiring them lets go.
 ///
 /// The refusal is that of `reachable_file`; `Words` where a text lists no ids, or `Metadata` where one of them is none
@@ -97,17 +119,18 @@ pub fn part_file<F: Files, W: Sink>(
     alloc: Global,
     files: &F,
     part: &Part,
+    format: Format,
     path: &str,
     output: &mut W,
 ) -> Result<(), RunFault>
     ensures nothing { IfErr result (λ fault. fault ≢ RunFault.Write → W.taken output.new ≡ W.taken output.old) }
     // What is written are the lines of the files that bytes reach which reads gave.
-    ensures given { OnOk result (WrotePart (F.gives files.now) part.now path.now (W.taken output.old)
+    ensures given { OnOk result (WrotePart (F.gives files.now) format part.now path.now (W.taken output.old)
         (W.taken output.new)) }
 {
     match part {
-        Part::All => reachable_file(alloc, files, path, output),
-        Part::Only(snapshots) => only_file(alloc, files, snapshots, path, output),
-        Part::Without(snapshots) => without_file(alloc, files, snapshots, path, output),
+        Part::All => all_file(alloc, files, format, path, output),
+        Part::Only(snapshots) => only_file(alloc, files, format, snapshots, path, output),
+        Part::Without(snapshots) => without_file(alloc, files, format, snapshots, path, output),
     }
 }

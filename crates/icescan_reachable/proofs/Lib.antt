@@ -1,3 +1,4 @@
+pub mod Causes
 pub mod MoreGiven
 pub mod NamedFiles
 pub mod Reached

@@ -284,7 +284,7 @@ module _ (gives : Giving) (path : List ℕ) (metadata : Described) where
       ]))
 
   -- a file of a live entry, by what it holds
-  file_reached : (live : Live) → HasLive gives metadata live → (content : FileContent)
+  pub file_reached : (live : Live) → HasLive gives metadata live → (content : FileContent)
       → live.entry.file.content ≡ content → Reaches gives metadata path (kind_of content) live.entry.file.path
   file_reached live has holds.Data is = (live, has, ap kind_of is, refl)
   file_reached live has holds.PositionDeletes is = (live, has, ap kind_of is, refl)

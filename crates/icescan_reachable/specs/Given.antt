@@ -1,6 +1,6 @@
 -- The lines of the files that a table reaches, of bytes that reads gave: also where files change from one read to the
 -- next. `Reaches` says in other words which files these are.
-use Rattle.std.specs.Prelude.{◌≡◌, ℕ, List, [], ◌∷◌, ◌++◌, map, Option, Some, Ok, option_and_then}
+use Rattle.std.specs.Prelude.{◌≡◌, ℕ, List, [], ◌∷◌, ◌++◌, map, Option, Some, None, Ok, option_and_then}
 use Rattle.ice_desk.specs.Given.{Giving}
 use Rattle.ice_manifest_reading.specs.Lists.{in_order}
 use Rattle.ice_manifest_reading.specs.Manifests.{live_of}
@@ -43,6 +43,11 @@ live_lines found = map live_line found
 abbrev pub AreLiveGiven : Giving → Row → List Live → Type 0
 AreLiveGiven gives row found =
     (bytes : List ℕ) × gives row.path (Some bytes) × (live_of row (bare_spec row) bytes ≡ Ok found)
+
+-- where there is a row, these are bytes that a read of its manifest gave
+abbrev pub IsHeld : Giving → Option Row → List ℕ → Type 0
+IsHeld gives None bytes = Unit {0}
+IsHeld gives (Some row) bytes = gives row.path (Some bytes)
 
 -- lines, with those of the manifests of these rows and of the files of their live entries behind them
 abbrev pub AreManifestsBehind : Giving → List (List ℕ) → List Row → List (List ℕ) → Type 0

@@ -2,3 +2,4 @@ pub mod Lines
 pub mod Named
 pub mod Given
 pub mod Reaches
+pub mod Refused

@@ -1,11 +1,17 @@
 //! The files of the live entries of manifests.
 
-ghost use Rattle.std.specs.Prelude.{◌≡◌, ◌≢◌, ◌++◌, ◌∷◌, [], List, Ok, IfOk, IsErrOf, OnOk};
+ghost use Rattle.std.specs.Prelude.{◌≡◌, ◌≢◌, ◌++◌, ◌∷◌, [], true, List, Option, Some, Ok, IfErr, IfOk, IsErrOf, OnOk};
+ghost use Rattle.std.specs.Prelude.{Contains, option_map};
+ghost use Rattle.contract_words.specs.Outcome.{Gives};
+ghost use Rattle.ice_manifest_reading.specs.declared.row.Row.{Row};
 ghost use Rattle.ice_manifest_reading.specs.Manifests.{live_of};
 ghost use Rattle.ice_manifest_reading.specs.Telling.{told_of};
 ghost use Rattle.ice_manifest_reading.specs.declared.entry.Live.{Live};
-ghost use Rattle.icescan_reachable.specs.Given.{AreLiveGiven, AreManifestsBehind, bare_spec, live_line, live_lines};
+ghost use Rattle.icescan_reachable.specs.Given.{AreLiveGiven, AreManifestsBehind, IsHeld, bare_spec, live_line};
+ghost use Rattle.icescan_reachable.specs.Given.{live_lines};
 ghost use Rattle.icescan_reachable.specs.Lines.{entry_line, kind_of, line};
+ghost use Rattle.icescan_reachable.specs.Refused.{IsAtFault, IsFor, IsOfManifest};
+ghost use Rattle.icescan_text.specs.Reads.{IsUnread};
 
 use crate::kind::{FileKind, line_of, put_line};
 use contract_words::Items;
@@ -58,7 +64,8 @@ impl Tell for Lines {
 
 /// Why the manifest of a row can't be read; or that memory ran out.
 fn refusal(alloc: Global, row: &Row, fault: ManifestFault) -> RunFault
-    ensures { result ≢ RunFault.Write }
+    ensures write { result ≢ RunFault.Write }
+    ensures why { IsFor (RunFault.Finish (FinishFault.Bad row.now.path fault)) (fault ≢ ManifestFault.Memory) result }
 {
     if let ManifestFault::Memory = fault {
         return RunFault::Memory;
@@ -69,17 +76,26 @@ fn refusal(alloc: Global, row: &Row, fault: ManifestFault) -> RunFault
     }
 }
 
-/// The lines of the files of the live entries of a row's manifest. Its partition values are not looked at.
-fn entry_lines(alloc: Global, row: &Row, bytes: &[u8]) -> Result<Vec<Items<u8>>, RunFault>
-    ensures told { IfOk result (λ told. told_of live_line (live_of row.now (bare_spec row.now) bytes.now)
-        ≡ Ok told.items) }
-    ensures write { IsErrOf result RunFault.Write → ⊥ }
+/// The lines of the files of the live entries of a row's manifest, or its fault. Its partition values are not looked at.
+fn told_lines(alloc: Global, row: &Row, bytes: &[u8]) -> Result<Vec<Items<u8>>, ManifestFault>
+    ensures { Gives ManifestFault.Memory (λ told. told.items) result
+        (told_of live_line (live_of row.now (bare_spec row.now) bytes.now)) }
 {
     let spec = Spec {
         id: row.spec_id,
         fields: Items::new(alloc),
     };
-    match read_told(alloc, row, &spec, &Lines, bytes) {
+    read_told(alloc, row, &spec, &Lines, bytes)
+}
+
+/// The lines of the files of the live entries of a row's manifest.
+fn entry_lines(alloc: Global, row: &Row, bytes: &[u8]) -> Result<Vec<Items<u8>>, RunFault>
+    ensures told { IfOk result (λ told. told_of live_line (live_of row.now (bare_spec row.now) bytes.now)
+        ≡ Ok told.items) }
+    ensures write { IsErrOf result RunFault.Write → ⊥ }
+    ensures causes { IfErr result (IsAtFault row.now bytes.now) }
+{
+    match told_lines(alloc, row, bytes) {
         Ok(told) => Ok(told),
         Err(fault) => Err(refusal(alloc, row, fault)),
     }
@@ -93,28 +109,61 @@ fn put_all(lines: &mut Vec<Items<u8>>, mut more: Vec<Items<u8>>) -> Result<(), A
     Ok(())
 }
 
+/// Whether the manifests of two rows are at one path.
+fn is_same_manifest(before: &Row, row: &Row) -> bool
+    ensures { result ≡ true → before.now.path ≡ row.now.path }
+{
+    before.path.as_str() == row.path.as_str()
+}
+
+/// Puts the bytes of a row's manifest in place of those that `bytes` has, unless these are its own: those of the manifest
+/// of the row before, where there is one.
+fn read_manifest<F: Files>(
+    alloc: Global,
+    files: &F,
+    before: Option<&Row>,
+    row: &Row,
+    bytes: &mut Vec<u8>,
+) -> Result<(), RunFault>
+    requires held { IsHeld (F.gives files.now) (option_map (λ r. r.now) before) bytes.now.items }
+    ensures write { IsErrOf result RunFault.Write → ⊥ }
+    ensures given { OnOk result (F.gives files.now row.now.path (Some bytes.new.items)) }
+    ensures unread { IfErr result (IsUnread (F.gives files.now) (F.may_fail files.now) row.now.path) }
+{
+    if let Some(before) = before {
+        if is_same_manifest(before, row) {
+            return Ok(());
+        }
+    }
+    read_file_into(alloc, files, row.path.as_str(), bytes)
+}
+
 /// Puts last the lines of a row's manifest and of the files of its live entries. `bytes` is the room that the manifest
-/// is read into.
+/// is read into, and has that of the row before.
 fn put_manifest<F: Files>(
     alloc: Global,
     files: &F,
+    before: Option<&Row>,
     row: &Row,
     bytes: &mut Vec<u8>,
     lines: &mut Vec<Items<u8>>,
 ) -> Result<(), RunFault>
+    requires held { IsHeld (F.gives files.now) (option_map (λ r. r.now) before) bytes.now.items }
     ensures write { IsErrOf result RunFault.Write → ⊥ }
     ensures given { OnOk result ((found : List Live) × AreLiveGiven (F.gives files.now) row.now found
         × (lines.new.items ≡ (lines.old.items ++ line FileKind.Manifest row.now.path ∷ []) ++ live_lines found)) }
+    ensures held { OnOk result (F.gives files.now row.now.path (Some bytes.new.items)) }
+    ensures causes { IfErr result (IsOfManifest (F.gives files.now) (F.may_fail files.now) row.now) }
 {
     put_line(lines, alloc, FileKind::Manifest, row.path.as_bytes())?;
-    read_file_into(alloc, files, row.path.as_str(), bytes)?;
+    read_manifest(alloc, files, before, row, bytes)?;
     let told = entry_lines(alloc, row, bytes.as_slice())?;
     put_all(lines, told)?;
     Ok(())
 }
 
 /// Puts last the lines of the manifests of these rows and of the files of their live entries. Each manifest is read
-/// into the room of the one before.
+/// into the room of the one before, and once where rows that follow each other have one path.
 pub fn put_manifests<F: Files>(
     alloc: Global,
     files: &F,
@@ -123,10 +172,14 @@ pub fn put_manifests<F: Files>(
 ) -> Result<(), RunFault>
     ensures write { IsErrOf result RunFault.Write → ⊥ }
     ensures given { OnOk result (AreManifestsBehind (F.gives files.now) lines.old.items rows.now lines.new.items) }
+    ensures causes { IfErr result (λ fault. (row : Row) × Contains rows.now row
+        × IsOfManifest (F.gives files.now) (F.may_fail files.now) row fault) }
 {
     let mut bytes = Vec::new(alloc);
+    let mut before = None;
     'rows: for row in rows {
-        put_manifest(alloc, files, row, &mut bytes, lines)?;
+        put_manifest(alloc, files, before, row, &mut bytes, lines)?;
+        before = Some(row);
     }
     Ok(())
 }

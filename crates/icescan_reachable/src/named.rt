@@ -1,8 +1,9 @@
 //! The files that the metadata names itself: older metadata, and statistics.
 
-ghost use Rattle.std.specs.Prelude.{◌≡◌, ◌≢◌, Some, IfOk, IsErrOf, OnOk, codes};
+ghost use Rattle.std.specs.Prelude.{◌≡◌, ◌≢◌, Some, None, IfErr, IfOk, IsErrOf, OnOk, codes};
 ghost use Rattle.serde_json.specs.View.{items_view, view};
 ghost use Rattle.icescan_reachable.specs.Named.{items_behind, named_behind, own_lines, path_in};
+ghost use Rattle.icescan_reachable.specs.Refused.{IsFor, unnamed};
 
 use crate::kind::{FileKind, put_line};
 use contract_words::Items;
@@ -13,7 +14,8 @@ use std::alloc::Global;
 
 /// Why metadata is refused in which an item of an array names no file.
 pub fn unnamed() -> RunFault
-    ensures { result ≢ RunFault.Write }
+    ensures write { result ≢ RunFault.Write }
+    ensures is { result ≡ unnamed }
 {
     RunFault::Metadata(MetaFault::WrongKind(Member::Element))
 }
@@ -22,6 +24,7 @@ pub fn unnamed() -> RunFault
 pub fn path_in<'a>(item: &'a Value, member: &str) -> Result<&'a str, RunFault>
     ensures path { IfOk result (λ path. path_in member.now (view item.now) ≡ Some path.now) }
     ensures write { IsErrOf result RunFault.Write → ⊥ }
+    ensures causes { IfErr result (IsFor unnamed (path_in member.now (view item.now) ≡ None)) }
 {
     match item.get(member) {
         Some(value) => match value.as_str() {
@@ -43,6 +46,8 @@ fn put_items(
     ensures behind { OnOk result (items_behind kind member.now lines.old.items (items_view items.now.items)
         ≡ Some lines.new.items) }
     ensures write { IsErrOf result RunFault.Write → ⊥ }
+    ensures causes { IfErr result (IsFor unnamed (items_behind kind member.now lines.old.items
+        (items_view items.now.items) ≡ None)) }
 {
     'items: for item in items {
         let path = path_in(item, member)?;
@@ -63,6 +68,8 @@ pub fn put_named(
     ensures behind { OnOk result (named_behind array.now member.now kind (view metadata.now) lines.old.items
         ≡ Some lines.new.items) }
     ensures write { IsErrOf result RunFault.Write → ⊥ }
+    ensures causes { IfErr result (IsFor unnamed (named_behind array.now member.now kind (view metadata.now)
+        lines.old.items ≡ None)) }
 {
     match metadata.get(array) {
         None | Some(Value::Null) => Ok(()),
@@ -81,6 +88,8 @@ fn put_statistics(
     ensures behind { OnOk result (named_behind array.now (codes "statistics-path") FileKind.Statistics
         (view metadata.now) lines.old.items ≡ Some lines.new.items) }
     ensures write { IsErrOf result RunFault.Write → ⊥ }
+    ensures causes { IfErr result (IsFor unnamed (named_behind array.now (codes "statistics-path") FileKind.Statistics
+        (view metadata.now) lines.old.items ≡ None)) }
 {
     let kind = FileKind::Statistics;
     put_named(lines, alloc, metadata, array, "statistics-path", kind)
@@ -91,6 +100,7 @@ fn put_statistics(
 pub fn own_lines(alloc: Global, path: &[u8], metadata: &Value) -> Result<Vec<Items<u8>>, RunFault>
     ensures own { IfOk result (λ lines. own_lines path.now (view metadata.now) ≡ Some lines.items) }
     ensures write { IsErrOf result RunFault.Write → ⊥ }
+    ensures causes { IfErr result (IsFor unnamed (own_lines path.now (view metadata.now) ≡ None)) }
 {
     let kind = FileKind::Metadata;
     let mut lines = Vec::new(alloc);

@@ -3,6 +3,7 @@
 ghost use Rattle.std.specs.Prelude.{◌≡◌, ◌≢◌, IfErr, IfOk, IsErrOf, OnOk};
 ghost use Rattle.ice_meta.specs.Targets.{described};
 ghost use Rattle.icescan_reachable.specs.Given.{AreLinesGiven, AreLinesGivenAt, WroteReached};
+ghost use Rattle.icescan_reachable.specs.Refused.{IsOfMetadata, IsRefused};
 
 use crate::lists::{gather_rows, put_lists};
 use crate::manifests::put_manifests;
@@ -25,6 +26,8 @@ pub fn lines_of<F: Files>(
     ensures write { IsErrOf result RunFault.Write → ⊥ }
     ensures given { IfOk result (λ lines. AreLinesGiven (F.gives files.now) path.now
         (described metadata.now.json metadata.now.table) lines.items) }
+    ensures causes { IfErr result (IsOfMetadata (F.gives files.now) (F.may_fail files.now) path.now
+        (described metadata.now.json metadata.now.table)) }
 {
     let snapshots = metadata.table().snapshots.as_slice();
     let mut lines = own_lines(alloc, path.as_bytes(), metadata.json())?;
@@ -39,6 +42,7 @@ pub fn lines_of<F: Files>(
 pub fn lines_at<F: Files>(alloc: Global, files: &F, path: &str) -> Result<Vec<Items<u8>>, RunFault>
     ensures write { IsErrOf result RunFault.Write → ⊥ }
     ensures given { IfOk result (λ lines. AreLinesGivenAt (F.gives files.now) path.now lines.items) }
+    ensures causes { IfErr result (IsRefused (F.gives files.now) (F.may_fail files.now) path.now) }
 {
     let bytes = read_file(alloc, files, path)?;
     let metadata = Metadata::read(alloc, &bytes)?;
@@ -63,6 +67,9 @@ pub fn reachable_file<F: Files, W: Sink>(
     // What is written are the lines of the files that bytes reach which reads gave.
     ensures given { OnOk result (WroteReached (F.gives files.now) path.now (W.taken output.old)
         (W.taken output.new)) }
+    // A refusal is one of the metadata, or of a manifest list or manifest of some snapshot.
+    ensures causes { IfErr result (λ fault. fault ≢ RunFault.Write →
+        IsRefused (F.gives files.now) (F.may_fail files.now) path.now fault) }
 {
     let lines = lines_at(alloc, files, path)?;
     let text = text_of(alloc, &lines)?;

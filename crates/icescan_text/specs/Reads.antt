@@ -37,6 +37,13 @@ IsOfFile (run.Device path) = Unit {0}
 IsOfFile run.Memory = Unit {0}
 IsOfFile _ = ⊥
 
+-- why the file at a path was not read: there is none, reading it failed, or memory ran out
+abbrev pub IsUnread : Giving → (List ℕ → Type 0) → List ℕ → RunFault → Type 0
+IsUnread gives may_fail path (run.Absent other) = (other ≡ path) × gives path None
+IsUnread gives may_fail path (run.Device other) = (other ≡ path) × may_fail path
+IsUnread gives may_fail path run.Memory = Unit {0}
+IsUnread gives may_fail path _ = ⊥
+
 -- the rows of a manifest list
 unfoldable pub rows_in : List ℕ → Result (List Row) RunFault
 rows_in bytes = as_run of_list (rows_of bytes)

@@ -3,7 +3,7 @@
 ghost use Rattle.std.specs.Prelude.{◌≡◌, ◌≤◌, ℕ, List, ◌∷◌, [], length, Some, None, Ok, IfOk, IfErr, IsErrOf, OnOk};
 ghost use Rattle.ice_desk.specs.Worlds.{EndsAt, HasAt};
 ghost use Rattle.ice_state.specs.Contents.{World};
-ghost use Rattle.icescan_text.specs.Reads.{AreRowsGiven, IsOfFile, MayEnd, file_in, rows_at};
+ghost use Rattle.icescan_text.specs.Reads.{AreRowsGiven, IsOfFile, IsUnread, MayEnd, file_in, rows_at};
 
 use crate::fault::RunFault;
 use contract_words::Text;
@@ -31,6 +31,7 @@ pub fn read_file<F: Files>(alloc: Global, files: &F, path: &str) -> Result<Vec<u
     ensures workers { IsErrOf result RunFault.Workers → ⊥ }
     ensures given { IfOk result (λ bytes. F.gives files.now path.now (Some bytes.items)) }
     ensures none_given { (path : List ℕ) → IsErrOf result (RunFault.Absent path) → F.gives files.now path None }
+    ensures unread { IfErr result (IsUnread (F.gives files.now) (F.may_fail files.now) path.now) }
 {
     match files.read(alloc, path) {
         Ok(bytes) => Ok(bytes),
@@ -57,6 +58,7 @@ pub fn read_file_into<F: Files>(
     ensures write { IsErrOf result RunFault.Write → ⊥ }
     ensures given { OnOk result (F.gives files.now path.now (Some bytes.new.items)) }
     ensures none_given { (path : List ℕ) → IsErrOf result (RunFault.Absent path) → F.gives files.now path None }
+    ensures unread { IfErr result (IsUnread (F.gives files.now) (F.may_fail files.now) path.now) }
 {
     match files.read_into(alloc, path, bytes) {
         Ok(()) => Ok(()),

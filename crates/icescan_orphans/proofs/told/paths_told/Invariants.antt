@@ -1,5 +1,5 @@
 use Rattle.std.proofs.Common.{◌≡◌, map, take}
-use Rattle.icescan_orphans.specs.Told.{path_told}
+use Rattle.icescan_parts.specs.Told.{path_told}
 use Rattle.icescan_orphans.proofs.told.paths_told.Given as goal
 
 abbrev pub invariant-lines : goal.invariant-lines

@@ -5,7 +5,7 @@ use Rattle.icescan_parts.proofs.running.part_file.Goals as goal
 pub returns-in-All-clause-given : goal.returns-in-All-clause-given
 returns-in-All-clause-given g c =
     let asked : c.args.part.now ≡ part.All = search rules in
-    rw asked c.reachable_file.ensures.given
+    rw asked c.all_file.ensures.given
 
 pub returns-in-Only-clause-given : goal.returns-in-Only-clause-given
 returns-in-Only-clause-given g c =

@@ -1,4 +1,6 @@
-use Rattle.std.proofs.Common.{}
+use Rattle.std.proofs.Common.{inl, inr}
+use Rattle.std.proofs.lemmas.Result.{err_from_is_err_and}
+use Rattle.icescan_reachable.proofs.Causes.{of_lacking, of_listed}
 use Rattle.icescan_reachable.proofs.Steps.{rows_end, rows_step}
 use Rattle.icescan_reachable.proofs.lists.gather_rows.Goals as goal
 
@@ -18,3 +20,16 @@ returns-clause-given g c =
     let gives = g.F.Files.gives c.args.files.now in
     c.snapshots.invariant c.snapshots.rows.items (rows_end gives c.args.snapshots.now c.snapshots.snapshot-index
     c.snapshots.rows.items c.snapshots-test.false)
+
+pub returns-in_err-list-clause-causes : goal.returns-in_err-list-clause-causes
+returns-in_err-list-clause-causes g c =
+    let p = err_from_is_err_and c.from_residual.result c.from_residual.ensures.1 in
+    rw (p.1, p.2) (inl (of_lacking c.args.snapshots.now c.snapshots.snapshot-index c.snapshot-item.result
+    c.snapshots-test.true c.snapshot-item.is c.in_err-list.field-0.0 c.in_err-list.ensures.causes))
+
+pub returns-in_err-put_rows-clause-causes : goal.returns-in_err-put_rows-clause-causes
+returns-in_err-put_rows-clause-causes g c =
+    let p = err_from_is_err_and c.from_residual-in_err-put_rows.result c.from_residual-in_err-put_rows.ensures.1 in
+    rw (p.1, p.2) (inr (of_listed (g.F.Files.gives c.args.files.now) (g.F.Files.may_fail c.args.files.now)
+    c.args.snapshots.now c.snapshots.snapshot-index c.snapshot-item.result c.snapshots-test.true c.snapshot-item.is
+    c.in_ok-list.list.now c.in_ok-list.ensures.list c.in_err-put_rows.field-0.0 c.in_err-put_rows.ensures.causes))
