@@ -27,6 +27,7 @@ BLOCK = 64_000
 VARIANTS = 64
 ADDED, EXISTING, DELETED = 1, 0, 2
 DATA, POSITION, EQUALITY = 0, 1, 2
+SOURCES = (0, 2)  # the places of the columns that partition fields come from, which have no nulls
 
 
 class File(NamedTuple):
@@ -370,7 +371,7 @@ class Statistics:
         self.keys = [number(column + 1) for column in range(table.columns)]
         self.front = some(number(table.columns))
         self.sizes = [self.of_numbers(drawn, 1 << 24) if table.full else b"" for _ in range(VARIANTS)]
-        self.nulls = [self.of_numbers(drawn, 1000 if table.full else 64) for _ in range(VARIANTS)]
+        self.nulls = [self.of_numbers(drawn, 1000 if table.full else 64, SOURCES) for _ in range(VARIANTS)]
         self.nans = self.of_numbers(drawn, 1) if table.full else b""
         self.between = [self.front + self.keys[0], *self.keys[1:], NULL]
         first = [self.front + self.keys[0] + number(8), self.keys[1] + number(8), self.keys[2] + number(8)]
@@ -378,8 +379,11 @@ class Statistics:
         self.lower, self.upper = zip(*[self.of_bounds(drawn, table.texts) for _ in range(VARIANTS)])
         self.splits = [some(ONE_BLOCK + number(4) + NULL), some(number(2) + number(4) + number(1 << 27) + NULL)]
 
-    def of_numbers(self, drawn, limit):
-        return b"".join([self.front, *[key + number(drawn.below(limit)) for key in self.keys], NULL])
+    def of_numbers(self, drawn, limit, none=()):
+        """A number below the limit for each column, and 0 for those at these places."""
+        drawn_numbers = [drawn.below(limit) for _ in self.keys]
+        numbers = [0 if at in none else one for at, one in enumerate(drawn_numbers)]
+        return b"".join([self.front, *[key + number(one) for key, one in zip(self.keys, numbers)], NULL])
 
     def of_bounds(self, drawn, texts):
         """Those of the columns after the third, the lower and the upper ones."""

@@ -1,11 +1,11 @@
 #!/usr/bin/env python3
 """Lines of JSON against the lines of text, and against the metadata file itself.
 
-json_lines.py PROGRAM      asks PROGRAM for `columns`, `audit`, `explain` and `show` of the tables in examples/ and of
-                           tables of the transcript, as text and as JSON, and compares
+json_lines.py PROGRAM      asks PROGRAM for `columns`, `audit`, `explain`, `reachable` and `show` of the tables in
+                           examples/ and of tables of the transcript, as text and as JSON, and compares
 json_lines.py expect COMMAND [METADATA]
-                           the lines of JSON for a text on standard input, of `columns`, `audit` or `explain`; of `show`
-                           for a metadata file
+                           the lines of JSON for a text on standard input, of `columns`, `audit`, `explain`,
+                           `reachable` or `orphans`; of `show` for a metadata file
 """
 import json
 import os
@@ -160,7 +160,13 @@ def of_explain(text):
                        bytes=int(has.get('bytes', 0)))
 
 
-MAKERS = {'columns': of_columns, 'audit': of_audit, 'explain': of_explain}
+def of_files(text):
+    for row in text:
+        word, path = row.split(' ')
+        yield line(kind=word, path=plain(path))
+
+
+MAKERS = {'columns': of_columns, 'audit': of_audit, 'explain': of_explain, 'reachable': of_files, 'orphans': of_files}
 
 
 def asked(program, command, words, stdin=None):
@@ -189,7 +195,7 @@ def main(program):
         tables.append((['--bundle', 'mem://t/v1.json'], os.path.join(data, 'audits', name), None))
     tried = wrong = 0
     for words, stdin, metadata in tables:
-        for command in ('columns', 'audit', 'explain'):
+        for command in ('columns', 'audit', 'explain', 'reachable'):
             more = ['--filter', 'id = 42'] if command == 'explain' and 'events' in words[1] else []
             status, text = asked(program, command, more + words, stdin)
             status_json, found = asked(program, command, ['--format', 'json'] + more + words, stdin)

@@ -3,18 +3,19 @@
 
 PROGRAM is the built icescan, or words that run it. Each of 300 tables is made in a new folder by random appends and
 row deltas; between them manifests are rewritten, by a snapshot whose manifests have some files deleted (entries of
-status 2), and snapshots expire. What `reachable` prints has to be what this script finds by reading the metadata and
-every manifest list and manifest by itself; so what `--only` and `--without` some of the snapshots print, which together
-have each file once. Below the folder stand files that the table needs, and others, old and young, some of which are
-named as one of these may be spelled; what `orphans` prints of them has to be what this script finds. Of each table a
-manifest is then taken away, cut or named as compressed, and nothing may be printed. Then commits are made beside
-`orphans`, 20 times, which may name none of their files. `reachable.py --tell FOLDER PREFIX METADATA [IDS]` prints what
-the script finds, without the snapshots of these ids; `--tell-only` with them what is left; `reachable.py --tell-orphans
-FOLDER PREFIX METADATA N` the files that are not needed. The last line counts; the status is 1 where something
-differs."""
+status 2) and whose list may say other lengths of the manifests that it shares, and snapshots expire. What `reachable`
+prints, also as JSON, has to be what this script finds by reading the metadata and every manifest list and manifest by
+itself; so what `--only` and `--without` some of the snapshots print, which together have each file once. Below the
+folder stand files that the table needs, and others, old and young, some of which are named as one of these may be
+spelled; what `orphans` prints of them has to be what this script finds. Of each table a manifest is then taken away,
+cut or named as compressed, and nothing may be printed. Then commits are made beside `orphans`, 20 times, which may name
+none of their files. `reachable.py --tell FOLDER PREFIX METADATA [IDS]` prints what the script finds, without the
+snapshots of these ids; `--tell-only` with them what is left; `reachable.py --tell-orphans FOLDER PREFIX METADATA N` the
+files that are not needed. The last line counts; the status is 1 where something differs."""
 import json
 import os
 import random
+import re
 import shutil
 import struct
 import subprocess
@@ -182,6 +183,16 @@ def text_of(files):
     return b"".join(sorted(kind + b" " + escaped(file) + b"\n" for kind, file in files))
 
 
+def objects_of(text):
+    """Lines of text as lines of JSON."""
+    lines = []
+    for line in text.splitlines():
+        word, path = line.split(b" ")
+        path = re.sub(rb"\\x([0-9a-f]{2})", lambda m: bytes([int(m.group(1), 16)]), path).decode()
+        lines.append(json.dumps({"kind": word.decode(), "path": path}, separators=(",", ":"), ensure_ascii=False))
+    return "".join(line + "\n" for line in lines).encode()
+
+
 def plain(path):
     """The one spelling of all that may name the same file."""
     path = urllib.parse.unquote_to_bytes(path.encode())
@@ -274,6 +285,8 @@ class Table:
         if not current:
             return
         head, schema, rows = objects(self.read(current[0]["manifest-list"]))
+        for shared in rows:
+            shared["manifest_length"] += self.rng.randrange(2)
         row = self.rng.choice(rows)
         entry_head, entry_schema, entries = objects(self.read(row["manifest_path"]))
         self.snapshot += 1
@@ -307,8 +320,8 @@ class Table:
     def ids(self):
         return [snapshot["snapshot-id"] for snapshot in self.metadata()["snapshots"]]
 
-    def orphans(self, path=None):
-        return self.run("orphans", "--older-than-ms", str(OLDER_THAN_MS), path or self.path())
+    def orphans(self, path=None, *words):
+        return self.run("orphans", *words, "--older-than-ms", str(OLDER_THAN_MS), path or self.path())
 
     def lay_files(self):
         """Files that are needed and files that are not, of which some are old."""
@@ -333,14 +346,19 @@ def answers(table):
     """What is asked of a table, with what has to be printed."""
     read, path = table.read, table.path()
     yield table.run("reachable", path), text_of(needed(read, path))
+    yield table.run("reachable", "--format", "json", path), objects_of(text_of(needed(read, path)))
     ids = table.ids()
     gone = table.rng.sample(ids, table.rng.randrange(1, len(ids) + 1)) if ids else []
     if gone:
         listed = ",".join(map(str, gone))
         yield table.run("reachable", "--without", listed, path), text_of(needed(read, path, gone))
-        yield table.run("reachable", "--only", listed, path), text_of(alone(read, path, gone))
+        left = text_of(alone(read, path, gone))
+        yield table.run("reachable", "--only", listed, path), left
+        yield table.run("reachable", "--format=json", "--only", listed, path), objects_of(left)
     table.lay_files()
     yield table.orphans(), strays(read, path, table.folder, PREFIX, OLDER_THAN_MS)
+    objects = table.orphans(path, "--format", "json")
+    yield objects, objects_of(strays(read, path, table.folder, PREFIX, OLDER_THAN_MS))
 
 
 def refusals(table):

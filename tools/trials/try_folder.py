@@ -2,10 +2,12 @@
 """try_folder.py PROGRAM: runs `PROGRAM list-plan` over real folders, and over words, and says what was not as it should
 be.
 
-The folders have segments `.` and `..`, links in a circle, links to files, a folder, a pipe and a socket in a file's
-place, a device at the end of a link, a file that may not be read, and one below a folder that may not be entered; the table of
+The folders have segments `.` and `..`, links in a circle, links to files and out of the folder, a folder, a pipe and a
+socket in a file's place, a device at the end of a link, a file that may not be read, and one below a folder that may
+not be entered; some are read with `--no-links` too, and an append is made through a link, and refused. The table of
 `examples/plain-java` is planned as well, and compared with its expected plan. A run that waits for a pipe has failed.
 """
+import json
 import os
 import socket
 import subprocess
@@ -44,8 +46,9 @@ def make(folder):
     os.mkfifo(os.path.join(folder, "t", "pipe"), 0o666)
     os.chmod(os.path.join(folder, "t", "pipe"), 0o666)
     socket.socket(socket.AF_UNIX).bind(os.path.join(folder, "t", "socket"))
-    for name, to in [("device", "/dev/zero"), ("to-pipe", "pipe"), ("to-list", "list"), ("to-none", "none")]:
+    for name, to in [("out", ".."), ("device", "/dev/zero"), ("to-pipe", "pipe"), ("to-list", "list"), ("to-none", "none")]:
         os.symlink(to, os.path.join(folder, "t", name))
+    os.symlink("t", os.path.join(folder, "to-t"))
     os.mkdir(os.path.join(folder, "t", "shut"))
     with open(os.path.join(folder, "t", "shut", "list"), "wb") as file:
         file.write(b"no container")
@@ -57,6 +60,7 @@ PATHS = [
     ("mem://t/list", 1, "N1 Avro V1 NotAvro"),
     ("mem://t//list", 1, "N1 Avro V1 NotAvro"),
     ("mem://t/to-list", 1, "N1 Avro V1 NotAvro"),
+    ("mem://t/out/list", 1, "N1 Avro V1 NotAvro"),
     ("mem://t/./list", 3, "P2 Absent mem://t/./list"),
     ("mem://t/s/./list", 3, "P2 Absent mem://t/s/./list"),
     ("mem://t/.", 3, "P2 Absent mem://t/."),
@@ -82,6 +86,19 @@ PATHS = [
     ("mem://t/device", 3, "P3 Device mem://t/device"),
 ]
 
+# the same with `--no-links`, for a folder that is a link itself
+WITHOUT_LINKS = [
+    ("mem://t/list", 1, "N1 Avro V1 NotAvro"),
+    ("mem://t//list", 1, "N1 Avro V1 NotAvro"),
+    ("mem://t/to-list", 3, "P3 Device mem://t/to-list"),
+    ("mem://t/a", 3, "P3 Device mem://t/a"),
+    ("mem://t/to-none", 3, "P3 Device mem://t/to-none"),
+    ("mem://t/out/list", 3, "P3 Device mem://t/out/list"),
+    ("mem://t/out//list", 3, "P3 Device mem://t/out//list"),
+    ("mem://t/out", 3, "P3 Device mem://t/out"),
+    ("mem://t/none", 3, "P2 Absent mem://t/none"),
+]
+
 # words that are refused with status 2 and a text on standard error
 REFUSED = [
     ["frobnicate"],
@@ -96,6 +113,36 @@ REFUSED = [
 ]
 
 
+def commits_through_links(program, folder):
+    """An append whose folder `metadata` is a link, with `--no-links` and without it; what was wrong."""
+    table = {"format-version": 2, "table-uuid": "f79c3e09-677c-4bbd-a479-3f349cb785e7", "location": "mem://c",
+             "last-sequence-number": 0, "last-updated-ms": 1, "last-column-id": 1, "current-schema-id": 0,
+             "schemas": [{"type": "struct", "schema-id": 0, "fields": [
+                 {"id": 1, "name": "c", "required": False, "type": "int"}]}],
+             "default-spec-id": 0, "partition-specs": [{"spec-id": 0, "fields": []}], "last-partition-id": 999}
+    change = {"data": [{"path": "mem://c/d", "format": "parquet", "spec-id": 0, "partition": [], "record-count": 1,
+                        "file-size": 1}], "deletes": []}
+    place = os.path.join(folder, "c")
+    for name in (place, os.path.join(folder, "elsewhere")):
+        os.mkdir(name)
+        os.chmod(name, 0o777)
+    os.symlink("../elsewhere", os.path.join(place, "metadata"))
+    for name, whole in (("table", table), ("change", change)):
+        with open(os.path.join(place, name), "w") as file:
+            json.dump(whole, file)
+    words = ["--dir", place, "--prefix", "mem://c", "--snapshot-id", "7", "--uuid", table["table-uuid"], "--now-ms", "99",
+             "--out", "mem://c/metadata/1.metadata.json", "mem://c/table", "mem://c/change"]
+    refused = run(program, ["append", "--no-links", *words])
+    left = os.listdir(os.path.join(folder, "elsewhere"))
+    made = run(program, ["append", *words])
+    wrong = []
+    if refused != (3, "", "icescan: W1 Write\n") or left:
+        wrong.append(("--no-links", "append", refused, left))
+    if made != (0, "committed snapshot 7 seq 1\n", ""):
+        wrong.append(("append", made))
+    return wrong
+
+
 def main():
     if len(sys.argv) != 2:
         sys.exit(__doc__.split("\n", 1)[0])
@@ -107,6 +154,12 @@ def main():
             got = run(program, ["list-plan", *way, path])
             if got != (status, "", f"icescan: {line}\n"):
                 wrong.append((path, got))
+        way[1] = os.path.join(folder, "to-t")
+        for path, status, line in WITHOUT_LINKS:
+            got = run(program, ["list-plan", "--no-links", *way, path])
+            if got != (status, "", f"icescan: {line}\n"):
+                wrong.append(("--no-links", path, got))
+        wrong += commits_through_links(program, folder)
     for words in REFUSED:
         status, out, errors = run(program, words)
         if status != 2 or out or not errors.startswith("error: ") or "Usage: icescan" not in errors:
@@ -121,7 +174,7 @@ def main():
             wrong.append("examples/plain-java")
     for case in wrong:
         print("WRONG", *case)
-    print(f"{len(PATHS) + len(REFUSED) + 4 - len(wrong)} passed, {len(wrong)} failed")
+    print(f"{len(PATHS) + len(WITHOUT_LINKS) + 2 + len(REFUSED) + 4 - len(wrong)} passed, {len(wrong)} failed")
     sys.exit(1 if wrong else 0)
 
 
