@@ -21,8 +21,8 @@ use std::thread::Threads;
 
 /// The empty state of a scan is what each of the 64 workers has where the scan is pinned.
 pub fn begin(alloc: Global, scan: &Scan) -> Result<Partial, AllocError>
-    ensures { (m : Machine) (filter : List (Part Predicate)) (w : ℕ) → scan_of m.history filter ≡ Some scan.now → w < 64 →
-        IfOk result (λ state. (p : PinnedScan) × (p.scan ≡ scan.now)
+    ensures { (m : Machine) (filter : List (Part Predicate)) (w : ℕ) → scan_of m.history filter ≡ Some scan.now →
+        w < 64 → IfOk result (λ state. (p : PinnedScan) × (p.scan ≡ scan.now)
         × HasState (event m (Pin filter)).1 (length m.pins) w p state) }
 {
     Partial::empty(alloc, scan)

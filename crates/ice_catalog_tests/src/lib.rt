@@ -1,6 +1,6 @@
-//! Tests of ice_desk and ice_catalog, of what no clause says: that calls succeed where memory is ample, what is planned of
-//! manifests that another program wrote, that workers work at once and leave nothing that they can read, what a catalog's
-//! lock hands out, and that a refused growth changes no reply.
+//! Tests of ice_desk and ice_catalog, of what no clause says: that calls succeed where memory is ample, what is planned
+//! of manifests that another program wrote, that workers work at once and leave nothing that they can read, what a
+//! catalog's lock hands out, and that a refused growth changes no reply.
 #![tactic(auto)]
 
 mod calls;

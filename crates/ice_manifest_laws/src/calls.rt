@@ -1,13 +1,13 @@
 //! Public calls once more, each under the one clause that wrong implementations turn, so that the gate can try these
 //! cheaply.
 
-ghost use Rattle.std.specs.Prelude.{◌≡◌, IfOk};
+ghost use Rattle.std.specs.Prelude.{◌≡◌, ◌∷◌, [], IfOk};
 ghost use Rattle.contract_words.specs.Outcome.{Gives};
 ghost use Rattle.ice_manifest_fields.specs.Fields.{int_or_zero, number_or_zero};
 ghost use Rattle.ice_manifest_layouts.specs.RowsFound.{IsRow, row_id, row_seen};
 ghost use Rattle.ice_manifest_reading.specs.Lists.{rows_of};
 ghost use Rattle.ice_manifest_reading.specs.Manifests.{entries_of};
-ghost use Rattle.ice_manifest.specs.Adding.{AreNewFiles, IsHeading, lent};
+ghost use Rattle.ice_manifest.specs.Adding.{AreNewFiles, IsHeading};
 ghost use Rattle.ice_manifest.specs.NewRows.{new_row};
 ghost use Rattle.ice_manifest.specs.Writing.{list_bytes, manifest_bytes};
 
@@ -46,32 +46,32 @@ pub fn write_list(alloc: Global, rows: &[Row], sync: [u8; 16]) -> Result<Vec<u8>
     ice_manifest::write_list(alloc, rows, sync)
 }
 
-/// The bytes of a manifest with an entry for each of these files.
+/// The bytes of a manifest with an entry for this file.
 pub fn write_manifest(
     alloc: Global,
     heading: &Heading,
-    files: &[&NewFile],
+    file: &NewFile,
 ) -> Result<Vec<u8>, AllocError>
     requires heading { IsHeading heading.now }
-    requires files { AreNewFiles heading.now (lent files.now) }
-    ensures { IfOk result (λ bytes. bytes.items ≡ manifest_bytes heading.now (lent files.now)) }
+    requires file { AreNewFiles heading.now (file.now ∷ []) }
+    ensures { IfOk result (λ bytes. bytes.items ≡ manifest_bytes heading.now (file.now ∷ [])) }
 {
-    ice_manifest::write_manifest(alloc, heading, files)
+    ice_manifest::write_manifest(alloc, heading, &[file])
 }
 
-/// The row of a new manifest of these files.
+/// The row of a new manifest of this file.
 pub fn new_row(
     heading: &Heading,
     alloc: Global,
     path: Text,
     length: i64,
     sequence_number: SequenceNumber,
-    files: &[&NewFile],
+    file: &NewFile,
 ) -> Result<Row, AllocError>
-    requires { AreNewFiles heading.now (lent files.now) }
-    ensures { IfOk result (λ row. row ≡ new_row heading.now path length sequence_number (lent files.now)) }
+    requires { AreNewFiles heading.now (file.now ∷ []) }
+    ensures { IfOk result (λ row. row ≡ new_row heading.now path length sequence_number (file.now ∷ [])) }
 {
-    heading.new_row(alloc, path, length, sequence_number, files)
+    heading.new_row(alloc, path, length, sequence_number, &[file])
 }
 
 /// A whole number of 32 bits at a field of a manifest list's row; 0 where the rows have no such field.

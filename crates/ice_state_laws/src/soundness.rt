@@ -21,7 +21,8 @@ use ice_value::order_of_cells;
 /// A file whose partition values don't meet the projection, or whose counts and bounds say no, has no row that meets
 /// the filter, where it is honest about its rows.
 pub fn left_out_files()
-    ensures values { (filter : List (Part BoundPredicate)) (spec : Spec) (tuple : List Cell) → IsSound filter spec tuple }
+    ensures values { (filter : List (Part BoundPredicate)) (spec : Spec) (tuple : List Cell) →
+        IsSound filter spec tuple }
     ensures columns { (filter : List (Part BoundPredicate)) (file : FileBounds) (rows : List table.Row) →
         file_may filter file ≡ false → AreCounted file filter rows → NoneMeets filter rows }
 {

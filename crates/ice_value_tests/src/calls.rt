@@ -1,5 +1,5 @@
-//! Public calls once more, each under the one clause that its wrong implementations turn, so that the gate can try these
-//! cheaply.
+//! Public calls once more, each under the one clause that its wrong implementations turn, so that the gate can try
+//! these cheaply.
 
 ghost use Rattle.std.specs.Prelude.{◌≡◌, ◌≢◌, ◌<◌, ◌^◌, AllPairs, IfOk, OnOk, length};
 ghost use Rattle.std.specs.Option.{SomeIff};

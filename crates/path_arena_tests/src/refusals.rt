@@ -1,5 +1,5 @@
-//! What a refused growth leaves. The tests are run with each allocation refused in turn, by `tools/trials/refuse --test`: the
-//! call succeeds when it is repeated, and the arena holds what was interned and nothing else.
+//! What a refused growth leaves. The tests are run with each allocation refused in turn, by `tools/trials/refuse
+//! --test`: the call succeeds when it is repeated, and the arena holds what was interned and nothing else.
 
 use crate::held::holds;
 use path_arena::{Arena, ArenaFault};

@@ -1,5 +1,5 @@
-//! What no clause says of the machine: that it runs where memory is ample, what it plans of manifests that another program
-//! wrote, and that with a growth refused it answers the same or nothing.
+//! What no clause says of the machine: that it runs where memory is ample, what it plans of manifests that another
+//! program wrote, and that with a growth refused it answers the same or nothing.
 
 use crate::files::{PATHS, container, manifest};
 use crate::versions::{adding, ids};
