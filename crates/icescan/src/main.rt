@@ -4,7 +4,8 @@
 
 use contract_words::Text;
 use icescan_commands::{
-    Cleared, HostFolders, HostStores, Progress, ProgressLine, System, Terminals, run_program,
+    Cleared, HostFolders, HostStores, Progress, ProgressLine, System, Terminals, links_of,
+    run_program,
 };
 use icescan_print::Output;
 use icescan_text::{RunFault, report};
@@ -32,17 +33,18 @@ fn main(rt: HostRuntime) -> ExitCode {
                 input: rt.stdin().is_terminal(),
                 errors: rt.stderr().is_terminal(),
             };
+            let links = links_of(&words);
             let system = System {
                 host: &rt,
                 alloc: rt.alloc(),
-                folders: &HostFolders::new(&rt),
+                folders: &HostFolders::by_links(&rt, links),
                 progress: &line,
             };
             run_program(
                 &system,
                 terminals,
                 &words,
-                &mut HostStores::new(&rt),
+                &mut HostStores::by_links(&rt, links),
                 &mut rt.stdin(),
                 &mut output,
                 &mut errors,

@@ -52,19 +52,12 @@ abbrev pub told : Asked → Data → Table → Result (List ℕ) RunFault
 told (asked.Columns target form) json table = columns_for form json table target.now
 told asked.Table json table = Ok (table_objects json table)
 
--- the text of the columns that a filter of the target names
-unfoldable pub columns_of : List ℕ → Target → Result (List ℕ) RunFault
-columns_of metadata target = made_of (λ json table. columns_for format.Text json table target) metadata
+-- the columns that a filter of the target names, in a form
+unfoldable pub columns_of : Format → List ℕ → Target → Result (List ℕ) RunFault
+columns_of form metadata target = made_of (λ json table. columns_for form json table target) metadata
 
-unfoldable pub columns_at : World → List ℕ → Target → Result (List ℕ) RunFault
-columns_at world path target = made_at (λ json table. columns_for format.Text json table target) world path
-
--- the same as lines of JSON
-unfoldable pub columns_json_of : List ℕ → Target → Result (List ℕ) RunFault
-columns_json_of metadata target = made_of (λ json table. columns_for format.Json json table target) metadata
-
-unfoldable pub columns_json_at : World → List ℕ → Target → Result (List ℕ) RunFault
-columns_json_at world path target = made_at (λ json table. columns_for format.Json json table target) world path
+unfoldable pub columns_at : Format → World → List ℕ → Target → Result (List ℕ) RunFault
+columns_at form world path target = made_at (λ json table. columns_for form json table target) world path
 
 -- what metadata says, as lines of JSON
 unfoldable pub shown_json_of : List ℕ → Result (List ℕ) RunFault

@@ -1,5 +1,5 @@
-//! The columns of a table as a filter names them, and the fields of its partition specs, as text or as lines of JSON; and
-//! what a table's metadata says as lines of JSON.
+//! The columns of a table as a filter names them, and the fields of its partition specs, as text or as lines of JSON;
+//! and what a table's metadata says as lines of JSON.
 #![tactic(auto)]
 
 mod asked;
@@ -11,4 +11,4 @@ mod running;
 mod told;
 mod type_names;
 
-pub use running::{columns_file, columns_file_json, run_columns, show_file_json};
+pub use running::{columns_file, run_columns, show_file_json};

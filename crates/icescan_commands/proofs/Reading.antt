@@ -124,13 +124,13 @@ module _ (below : GivingBelow) where
   columns_below (source.Folder place) gives wider form path target result o o' wrote =
       on_ok_weaker result (λ w. (w.0, wider path _ w.1, w.2)) wrote
 
-  pub reachable_below : (from : Source) (gives : Giving) → AreGivenBelow below from gives → (part : Part)
-      (path : List ℕ) (result : Result Unit RunFault) (o o' : Option (List ℕ))
-      → OnOk result (WrotePart gives part path o o')
-      → OnOk result (WroteOfGiven below (command.Reachable from part path) 0 o o')
-  reachable_below source.Bundle gives wider part path result o o' wrote = any_ok result
-  reachable_below (source.Folder place) gives wider part path result o o' wrote =
-      on_ok_weaker result (more_part gives (below place.folder place.prefix) wider part path o o') wrote
+  pub reachable_below : (from : Source) (gives : Giving) → AreGivenBelow below from gives → (form : Format)
+      (part : Part) (path : List ℕ) (result : Result Unit RunFault) (o o' : Option (List ℕ))
+      → OnOk result (WrotePart gives form part path o o')
+      → OnOk result (WroteOfGiven below (command.Reachable from part form path) 0 o o')
+  reachable_below source.Bundle gives wider form part path result o o' wrote = any_ok result
+  reachable_below (source.Folder place) gives wider form part path result o o' wrote =
+      on_ok_weaker result (more_part gives (below place.folder place.prefix) wider form part path o o') wrote
 
   pub audit_below : (from : Source) (gives : Giving) → AreGivenBelow below from gives → (form : Format)
       (path : List ℕ) (target : Target) (workers : ℕ) (result : Result ℕ RunFault) (o o' : Option (List ℕ))

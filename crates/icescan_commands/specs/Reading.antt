@@ -5,7 +5,7 @@ use Rattle.ice_desk.specs.Given.{Giving}
 use Rattle.ice_meta.specs.declared.metadata.Target.{Target}
 use Rattle.icescan_audit.specs.JsonLines.{WroteAnAuditAs}
 use Rattle.icescan_changes.specs.Answers.{WroteChangesOfGiven}
-use Rattle.icescan_columns.specs.Columns.{columns_json_of, columns_of, shown_json_of}
+use Rattle.icescan_columns.specs.Columns.{columns_of, shown_json_of}
 use Rattle.icescan_explain.specs.JsonLines.{WroteAnExplanationAs}
 use Rattle.icescan_json.specs.JsonAnswers.{IsTypedListOfGiven, IsTypedOfGivenAt, WroteJsonThat}
 use Rattle.icescan_orphans.specs.Written.{WroteStrays}
@@ -59,13 +59,9 @@ WroteShown form gives path output output' = (metadata : List ℕ) × gives path 
     × WroteText (shown_of form metadata) output output'
 
 -- the columns of the metadata at a path, in a form
-abbrev pub listed_of : Format → List ℕ → Target → Result (List ℕ) RunFault
-listed_of format.Text metadata target = columns_of metadata target
-listed_of format.Json metadata target = columns_json_of metadata target
-
 abbrev pub WroteColumns : Format → Giving → List ℕ → Target → Option (List ℕ) → Option (List ℕ) → Type 0
 WroteColumns form gives path target output output' = (metadata : List ℕ) × gives path (Some metadata)
-    × WroteText (listed_of form metadata target) output output'
+    × WroteText (columns_of form metadata target) output output'
 
 -- the audit of a snapshot of the table whose metadata is at a path, in a form, with so many faults
 abbrev pub WroteAudited : Format → Giving → List ℕ → Target → ℕ → Option (List ℕ) → Option (List ℕ) → Type 0
@@ -99,10 +95,10 @@ WroteOfGiven below (command.Columns (source.Folder place) target form path) coun
     WroteColumns form (given_at below place) path target output output'
 WroteOfGiven below (command.Changes (source.Folder place) request form workers path) count output output' =
     WroteChanged form (given_at below place) path request output output'
-WroteOfGiven below (command.Reachable (source.Folder place) part path) count output output' =
-    WrotePart (given_at below place) part path output output'
-WroteOfGiven below (command.Orphans place older path) count output output' =
-    WroteStrays (given_at below place) older path output output'
+WroteOfGiven below (command.Reachable (source.Folder place) part form path) count output output' =
+    WrotePart (given_at below place) form part path output output'
+WroteOfGiven below (command.Orphans place older form path) count output output' =
+    WroteStrays (given_at below place) form older path output output'
 WroteOfGiven below _ count output output' = Unit {0}
 
 -- the same of words that were read

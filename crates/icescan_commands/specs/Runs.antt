@@ -7,7 +7,7 @@ use Rattle.icescan_audit.specs.Audits.{audit_at, audit_reads_at}
 use Rattle.icescan_audit.specs.JsonLines.{audit_told}
 use Rattle.icescan_audit.specs.declared.audit.Audit.{Audit}
 use Rattle.icescan_changes.specs.Answers.{changes_at, changes_reads_at}
-use Rattle.icescan_columns.specs.Columns.{columns_at, columns_json_at, shown_json_at}
+use Rattle.icescan_columns.specs.Columns.{columns_at, shown_json_at}
 use Rattle.icescan_commands.specs.Answers.{Answer, WroteAnswer, WroteAnswerFront, as_answer, as_json, plain}
 use Rattle.icescan_json.specs.JsonAnswers.{typed_answer_at, typed_list_answer}
 use Rattle.icescan_commands.specs.Sources.{Below, Failing, MayFailBelow, failing_bundle, failing_over, failing_place}
@@ -95,8 +95,7 @@ show_in format.Text world path = as_answer (shown_at world path)
 show_in format.Json world path = as_answer (shown_json_at world path)
 
 abbrev pub columns_told : Format → World → List ℕ → Target → Result Answer RunFault
-columns_told format.Text world path target = as_answer (columns_at world path target)
-columns_told format.Json world path target = as_answer (columns_json_at world path target)
+columns_told form world path target = as_answer (columns_at form world path target)
 
 abbrev pub audit_in : Format → World → List ℕ → Target → ℕ → Result Answer RunFault
 audit_in form world path target workers = as_answer (as_audit form (audit_at world path target workers))
@@ -130,8 +129,8 @@ answer_to below (command.Explain source request form workers path) input =
 answer_to below (command.Changes source request form workers path) input =
     over below source (λ world. changes_in form world path request workers) input
 answer_to below (command.Locate folder form) input = None
-answer_to below (command.Reachable source part path) input = None
-answer_to below (command.Orphans place older path) input = None
+answer_to below (command.Reachable source part form path) input = None
+answer_to below (command.Orphans place older form path) input = None
 answer_to below (command.Drill asked) input = None
 answer_to below (command.Text text) input = Some (Ok (plain text))
 
@@ -158,8 +157,8 @@ failing_of below may_fail (command.Explain source request form workers path) wri
 failing_of below may_fail (command.Changes source request form workers path) write =
     failing_over below may_fail source (λ world. changes_reads_at world path request) write
 failing_of below may_fail (command.Locate folder form) write = failing_unread write
-failing_of below may_fail (command.Reachable source part path) write = failing_unread write
-failing_of below may_fail (command.Orphans place older path) write = failing_unread write
+failing_of below may_fail (command.Reachable source part form path) write = failing_unread write
+failing_of below may_fail (command.Orphans place older form path) write = failing_unread write
 failing_of below may_fail (command.Drill asked) write = failing_unread write
 failing_of below may_fail (command.Text text) write = failing_unread write
 

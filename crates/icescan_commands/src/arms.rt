@@ -16,16 +16,15 @@ ghost use Rattle.icescan_text.specs.declared.fault.RunFault.{RunFault};
 ghost use Rattle.icescan_words.specs.declared.command.Command.{Command};
 
 use crate::commit_lines::commit_lines;
-use crate::forms::{
-    write_audit, write_changes, write_columns, write_explained, write_list_plan, write_plan,
-    write_shown,
-};
+use crate::forms::{write_audit, write_changes, write_list_plan, write_plan, write_shown};
 use crate::system::System;
 use crate::table_files::{open_files, watched_files};
 use contract_words::Text;
 use ice_meta::Target;
+use icescan_columns::columns_file;
 use icescan_commits::{commit_to, prepare_commit};
 use icescan_drill::{Watch, run_drill};
+use icescan_explain::explain_file;
 use icescan_files::{Bundle, Folders, Stores, read_bundle};
 use icescan_forms::{Format, Part};
 use icescan_locate::{locate_all, locate_folder};
@@ -105,8 +104,9 @@ pub fn plan<H: Threads + Sync, S: Folders + Sync, P: Progress + Sync, R: Read, W
         (failing_of (S.below system.now.folders.now) (S.may_fail system.now.folders.now)
         (Command.Plan table.now.source.now request.now format workers table.now.path.now) (W.may_fail output.old))
         result (W.taken output.old) (W.taken output.new) }
-    ensures given { OnOk result (WroteOfGiven (S.gives system.now.folders.now) (Command.Plan table.now.source.now request.now
-        format workers table.now.path.now) 0 (W.taken output.old) (W.taken output.new)) }
+    ensures given { OnOk result (WroteOfGiven (S.gives system.now.folders.now)
+        (Command.Plan table.now.source.now request.now format workers table.now.path.now) 0 (W.taken output.old)
+        (W.taken output.new)) }
 {
     let files = open_files(system, table.source, input)?;
     write_plan(
@@ -165,39 +165,48 @@ pub fn columns<H, S: Folders, P: Progress, R: Read, W: Sink>(
 {
     let files = open_files(system, table.source, input)?;
     let path = table.path.as_str();
-    write_columns(system.alloc, &files, path, target, format, output)
+    columns_file(system.alloc, &files, path, target, format, output)
 }
 
-/// Writes this part of the files that a table reaches.
+/// Writes this part of the files that a table reaches, in a form.
 pub fn reachable<H, S: Folders, P: Progress, R: Read, W: Sink>(
     system: &System<'_, H, S, P>,
     table: &TableAt<'_>,
     part: &Part,
+    format: Format,
     input: &mut R,
     output: &mut W,
 ) -> Result<(), RunFault>
     requires { P.may_be_told system.now.progress.now ≡ true }
     ensures ran { Ran None (failing_unread (W.may_fail output.old)) result (W.taken output.old) (W.taken output.new) }
     ensures given { OnOk result (WroteOfGiven (S.gives system.now.folders.now)
-        (Command.Reachable table.now.source.now part.now table.now.path.now) 0 (W.taken output.old)
+        (Command.Reachable table.now.source.now part.now format table.now.path.now) 0 (W.taken output.old)
         (W.taken output.new)) }
 {
     let files = open_files(system, table.source, input)?;
-    part_file(system.alloc, &files, part, table.path.as_str(), output)
+    part_file(
+        system.alloc,
+        &files,
+        part,
+        format,
+        table.path.as_str(),
+        output,
+    )
 }
 
-/// Writes the files below a folder, older than so many milliseconds, that a table does not reach.
+/// Writes the files below a folder, older than so many milliseconds, that a table does not reach, in a form.
 pub fn orphans<H: AgedFolders, S: Folders, P: Progress, W: Sink>(
     system: &System<'_, H, S, P>,
     place: &Place,
     older_than_ms: u64,
+    format: Format,
     path: &Text,
     output: &mut W,
 ) -> Result<(), RunFault>
     requires { P.may_be_told system.now.progress.now ≡ true }
     ensures ran { Ran None (failing_unread (W.may_fail output.old)) result (W.taken output.old) (W.taken output.new) }
     ensures given { OnOk result (WroteOfGiven (S.gives system.now.folders.now)
-        (Command.Orphans place.now older_than_ms path.now) 0 (W.taken output.old) (W.taken output.new)) }
+        (Command.Orphans place.now older_than_ms format path.now) 0 (W.taken output.old) (W.taken output.new)) }
 {
     let files = watched_files(system, place);
     let table = path.as_str();
@@ -206,11 +215,19 @@ pub fn orphans<H: AgedFolders, S: Folders, P: Progress, W: Sink>(
         prefix: place.prefix.as_str(),
         older_than_ms,
     };
-    orphans_file(system.alloc, system.host, &files, &search, table, output)
+    orphans_file(
+        system.alloc,
+        system.host,
+        &files,
+        &search,
+        format,
+        table,
+        output,
+    )
 }
 
-/// Writes the audit of a snapshot of a table, in a form and by so many workers, and gives the number of findings that are
-/// faults.
+/// Writes the audit of a snapshot of a table, in a form and by so many workers, and gives the number of findings that
+/// are faults.
 pub fn audit<H: Threads + Sync, S: Folders + Sync, P: Progress + Sync, R: Read, W: Sink>(
     system: &System<'_, H, S, P>,
     table: &TableAt<'_>,
@@ -238,8 +255,8 @@ pub fn audit<H: Threads + Sync, S: Folders + Sync, P: Progress + Sync, R: Read, 
     write_audit(system, &files, path, target, format, workers, output)
 }
 
-/// Writes the plan that is asked of a table, by so many workers, with what became of each manifest and each live file, in a
-/// form.
+/// Writes the plan that is asked of a table, by so many workers, with what became of each manifest and each live file,
+/// in a form.
 pub fn explain<H, S: Folders, P: Progress, R: Read, W: Sink>(
     system: &System<'_, H, S, P>,
     table: &TableAt<'_>,
@@ -262,7 +279,7 @@ pub fn explain<H, S: Folders, P: Progress, R: Read, W: Sink>(
 {
     let files = open_files(system, table.source, input)?;
     let path = table.path.as_str();
-    write_explained(system.alloc, &files, path, request, format, workers, output)
+    explain_file(system.alloc, &files, path, request, workers, format, output)
 }
 
 /// Writes the changes that are asked of a table, in a form and by so many workers.

@@ -1,5 +1,5 @@
-//! The program where a user reads what it writes: notes stand beside an answer and a hint after the line of a fault, and
-//! what is read is shown.
+//! The program where a user reads what it writes: notes stand beside an answer and a hint after the line of a fault,
+//! and what is read is shown.
 
 ghost use Rattle.std.specs.Prelude.{◌≡◌, ◌∷◌, [], true, false, map, string_bytes, codes, IfOk, Ok};
 ghost use Rattle.icescan_commands.specs.Runs.{RanAsWithHint, RanWithHint, RanWithoutHint, ToldWithHint, meant};

@@ -6,10 +6,8 @@ ghost use Rattle.icescan_audit.specs.JsonLines.{WroteAuditAs, WroteAuditFrontAs}
 ghost use Rattle.icescan_changes.specs.Answers.{changes_reads_at};
 ghost use Rattle.icescan_text.specs.Reads.{MayEnd};
 ghost use Rattle.icescan_commands.specs.Answers.{GivesAnswer};
-ghost use Rattle.icescan_commands.specs.Reading.{WroteAudited, WroteColumns, WroteExplained, WroteListPlan};
-ghost use Rattle.icescan_commands.specs.Reading.{WroteChanged, WrotePlanAt};
-ghost use Rattle.icescan_commands.specs.Reading.{WroteShown};
-ghost use Rattle.icescan_commands.specs.Runs.{changes_in, columns_told, explain_in, list_plan_in, plan_in, show_in};
+ghost use Rattle.icescan_commands.specs.Reading.{WroteAudited, WroteChanged, WroteListPlan, WrotePlanAt, WroteShown};
+ghost use Rattle.icescan_commands.specs.Runs.{changes_in, list_plan_in, plan_in, show_in};
 ghost use Rattle.ice_desk.specs.Worlds.{EndsAt};
 ghost use Rattle.icescan_requests.specs.ListPlans.{list_reads};
 ghost use Rattle.icescan_requests.specs.Plans.{OnRefusal, reads_at};
@@ -20,8 +18,7 @@ use ice_desk::Files;
 use ice_meta::Target;
 use icescan_audit::{audit_file, audit_file_json};
 use icescan_changes::{changes_file, changes_file_json};
-use icescan_columns::{columns_file, columns_file_json, show_file_json};
-use icescan_explain::{explain_file, explain_file_json};
+use icescan_columns::show_file_json;
 use icescan_forms::Format;
 use icescan_json::{plan_file_json, run_list_plan_json};
 use icescan_print::Sink;
@@ -101,55 +98,6 @@ pub fn write_shown<F: Files, W: Sink>(
     match format {
         Format::Text => show_file(alloc, files, path, output),
         Format::Json => show_file_json(alloc, files, path, output),
-    }
-}
-
-/// Writes the columns that a filter of a snapshot names, of the table whose metadata is at a path.
-pub fn write_columns<F: Files, W: Sink>(
-    alloc: Global,
-    files: &F,
-    path: &str,
-    target: &Target,
-    format: Format,
-    output: &mut W,
-) -> Result<(), RunFault>
-    ensures answers { (world : World) → F.world files.now ≡ Some world →
-        GivesAnswer (columns_told format world path.now target.now) (EndsAt world (F.may_fail files.now) (path.now ∷ []))
-        (W.may_fail output.old) result (W.taken output.old) (W.taken output.new) }
-    ensures nothing { IfErr result (λ fault. fault ≢ RunFault.Write → W.taken output.new ≡ W.taken output.old) }
-    // Over all files: what is written is made of bytes that reads gave.
-    ensures given { OnOk result (WroteColumns format (F.gives files.now) path.now target.now (W.taken output.old)
-        (W.taken output.new)) }
-{
-    match format {
-        Format::Text => columns_file(alloc, files, path, target, output),
-        Format::Json => columns_file_json(alloc, files, path, target, output),
-    }
-}
-
-/// Writes the plan that is asked of the table whose metadata is at a path, explained, by so many workers.
-pub fn write_explained<F: Files, W: Sink>(
-    alloc: Global,
-    files: &F,
-    path: &str,
-    request: &Request,
-    format: Format,
-    workers: usize,
-    output: &mut W,
-) -> Result<(), RunFault>
-    ensures answers { (world : World) → F.world files.now ≡ Some world →
-        GivesAnswer (explain_in format world path.now request.now workers)
-        (EndsAt world (F.may_fail files.now) (reads_at world path.now request.now))
-        (W.may_fail output.old) result (W.taken output.old) (W.taken output.new) }
-    ensures refusal { OnRefusal (F.world files.now) (F.may_fail files.now) (W.may_fail output.old) result
-        (W.taken output.old) (W.taken output.new) }
-    // Over all files: what is written is made of bytes that reads gave.
-    ensures given { OnOk result (WroteExplained format (F.gives files.now) path.now request.now (W.taken output.old)
-        (W.taken output.new)) }
-{
-    match format {
-        Format::Text => explain_file(alloc, files, path, request, workers, output),
-        Format::Json => explain_file_json(alloc, files, path, request, workers, output),
     }
 }
 

@@ -1,5 +1,5 @@
-//! The program's commands as calls: those that `icescan_requests` has, drills of `icescan_drill`, and all of them over the
-//! words of a command line, which `icescan_words` reads.
+//! The program's commands as calls: those that `icescan_requests` has, drills of `icescan_drill`, and all of them over
+//! the words of a command line, which `icescan_words` reads.
 #![tactic(auto)]
 
 mod arms;
@@ -15,7 +15,7 @@ pub use icescan_columns::{columns_file, run_columns};
 pub use icescan_commits::{commit_to, commits_are_put, prepare_commit, put_commit};
 pub use icescan_drill::{Drill, Watch, drill_table, run_drill};
 pub use icescan_files::{
-    Bundle, CommitFolder, Disk, DiskFolder, Folder, Folders, HostFolders, HostStores, Store,
+    Bundle, CommitFolder, Disk, DiskFolder, Folder, Folders, HostFolders, HostStores, Links, Store,
     StoreFault, Stores, file_name, put_files, read_all,
 };
 pub use icescan_forms::{Format, Part};
@@ -30,5 +30,5 @@ pub use icescan_requests::{
 };
 pub use icescan_text::{CommitRequest, Request};
 pub use icescan_words::{Command, Lists, Located, Place, Source, parse_words};
-pub use system::System;
+pub use system::{System, links_of};
 pub use words::run_words;

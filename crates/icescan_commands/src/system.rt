@@ -1,5 +1,10 @@
 //! What a run works with.
 
+ghost use Rattle.std.specs.Prelude.{◌≡◌, if◌then◌else◌, map, string_bytes};
+ghost use Rattle.icescan_progress.specs.Asked.{refuses_links};
+
+use icescan_files::Links;
+use icescan_progress::refuses_links;
 use std::alloc::Global;
 
 /// What a run works with: there is no other way to the bytes of a file.
@@ -12,4 +17,15 @@ pub struct System<'a, H, S, P> {
     pub folders: &'a S,
     /// Is told of each file that is read below a folder.
     pub progress: &'a P,
+}
+
+/// Whether links below a folder are followed in a run of these words.
+pub fn links_of(words: &[String]) -> Links
+    ensures { result ≡ (if refuses_links (map string_bytes words.now) then Links.Refused else Links.Followed) }
+{
+    if refuses_links(words) {
+        Links::Refused
+    } else {
+        Links::Followed
+    }
 }

@@ -93,12 +93,12 @@ where
             let table = &TableAt { source, path };
             no_findings(changes(system, table, request, *format, *workers, input, output))
         }
-        Command::Reachable(source, part, path) => {
+        Command::Reachable(source, part, format, path) => {
             let table = &TableAt { source, path };
-            no_findings(reachable(system, table, part, input, output))
+            no_findings(reachable(system, table, part, *format, input, output))
         }
-        Command::Orphans(place, older_than_ms, path) => {
-            no_findings(orphans(system, place, *older_than_ms, path, output))
+        Command::Orphans(place, older_than_ms, format, path) => {
+            no_findings(orphans(system, place, *older_than_ms, *format, path, output))
         }
         Command::Locate(folder, located) => {
             no_findings(locate(system, folder, *located, output))

@@ -1,5 +1,5 @@
 -- An explanation as lines of JSON, an object each; and what is written of an explanation in a form.
-use Rattle.std.specs.Prelude.{◌≡◌, ℕ, List, [], ◌∷◌, ◌++◌, codes, Option, Result, Ok}
+use Rattle.std.specs.Prelude.{◌≡◌, ℕ, List, [], ◌∷◌, ◌++◌, codes, Option, Result, Ok, OnOk, IsErrOf}
 use Rattle.std.specs.List.{flat_map}
 use Rattle.serde_json.specs.Data.{Data, boolean, null, string}
 use Rattle.ice_desk.specs.Given.{Giving}
@@ -8,7 +8,7 @@ use Rattle.icescan_explain.specs.AnyFiles.{IsAnExplanation}
 use Rattle.icescan_explain.specs.Applying.{applied}
 use Rattle.icescan_explain.specs.Counting.{counts_of}
 use Rattle.icescan_explain.specs.Fates.{is_kept}
-use Rattle.icescan_explain.specs.Texts.{all_of, explanation_text}
+use Rattle.icescan_explain.specs.Texts.{all_of, explanation_text, subject_name}
 use Rattle.icescan_explain.specs.declared.counts.Counts.{Counts}
 use Rattle.icescan_explain.specs.declared.manifests.Explanation.{Explanation}
 use Rattle.icescan_explain.specs.declared.verdict.Fate.{Fate}
@@ -21,12 +21,8 @@ use Rattle.icescan_forms.specs.declared.format.Format.{Format}
 use Rattle.icescan_forms.specs.declared.format.Format.TheVariants as format
 use Rattle.icescan_print.specs.Written.{Appends, AppendsFront}
 use Rattle.icescan_text.specs.declared.fault.RunFault.{RunFault}
+use Rattle.icescan_text.specs.declared.fault.RunFault.TheVariants as run
 use Rattle.icescan_text.specs.declared.request.Request.{Request}
-
-abbrev pub subject_name : Subject → List ℕ
-subject_name Manifest = codes "manifest"
-subject_name DataFile = codes "data"
-subject_name Deletes = codes "delete"
 
 -- of a delete file that is kept, to how many data files of the plan it applies
 abbrev pub applies_json : List OwnedLine → Subject → List ℕ → Fate → Data
@@ -91,3 +87,10 @@ WroteExplanationFrontAs form read output output' = (x : Explanation) × (read �
 abbrev pub WroteAnExplanationAs : Format → Giving → List ℕ → Request → Option (List ℕ) → Option (List ℕ) → Type 0
 WroteAnExplanationAs form gives metadata request output output' = (x : Explanation)
     × IsAnExplanation gives metadata request x × Appends output output' (explanation_told form x)
+
+-- What was written: such an explanation, in a form, and after a failed write a front of one.
+pub record WritesAnExplanation (form : Format) (gives : Giving) (metadata : List ℕ) (request : Request)
+    (result : Result Unit RunFault) (output output' : Option (List ℕ)) : Type 0 where
+  pub all : OnOk result (WroteAnExplanationAs form gives metadata request output output')
+  pub front : IsErrOf result run.Write → (x : Explanation) × IsAnExplanation gives metadata request x
+      × AppendsFront output output' (explanation_told form x)

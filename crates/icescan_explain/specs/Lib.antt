@@ -6,7 +6,6 @@ pub mod Columns
 pub mod Applying
 pub mod Counting
 pub mod Texts
-pub mod Writing
 pub mod RowsTold
 pub mod Explanations
 pub mod Told

@@ -13,10 +13,10 @@ use Rattle.icescan_explain.specs.Counting.{counts_of}
 use Rattle.icescan_explain.specs.declared.counts.Counts.{Counts}
 use Rattle.icescan_explain.specs.declared.manifests.Explanation.{Explanation}
 
-abbrev pub subject_word : Subject → List ℕ
-subject_word Manifest = codes "manifest "
-subject_word Data = codes "data "
-subject_word Deletes = codes "delete "
+abbrev pub subject_name : Subject → List ℕ
+subject_name Manifest = codes "manifest"
+subject_name Data = codes "data"
+subject_name Deletes = codes "delete"
 
 -- what stands before the name of a partition field
 abbrev pub partition_word : Subject → List ℕ
@@ -42,7 +42,8 @@ fate_text plan subject path (ByBounds column) = left_out_text (codes " pruned by
 
 -- the line of a verdict
 unfoldable pub verdict_text : List OwnedLine → Verdict → List ℕ
-verdict_text plan v = named_path (subject_word v.subject) v.path ++ (fate_text plan v.subject v.path v.fate ++ 10 ∷ [])
+verdict_text plan v = subject_name v.subject ++ (named_path (codes " ") v.path
+    ++ (fate_text plan v.subject v.path v.fate ++ 10 ∷ []))
 
 -- how many there are in all
 abbrev pub all_of : Counts → ℕ

@@ -3,7 +3,7 @@
 ghost use Rattle.std.specs.Prelude.{◌≡◌, List};
 ghost use Rattle.std.specs.List.{flat_map};
 ghost use Rattle.icescan_explain.specs.Applying.{CountsOf};
-ghost use Rattle.icescan_explain.specs.JsonLines.{applies_json, by_json, explanation_objects, name_json, subject_name};
+ghost use Rattle.icescan_explain.specs.JsonLines.{applies_json, by_json, explanation_objects, name_json};
 ghost use Rattle.icescan_explain.specs.JsonLines.{totals_json, totals_object, totals_objects, verdict_object};
 ghost use Rattle.icescan_forms.specs.Objects.{object_line, text_if, value_json};
 ghost use Rattle.icescan_print.specs.Written.{Sent};
@@ -13,23 +13,13 @@ ghost use Rattle.ice_state.specs.Lines.{OwnedLine};
 use crate::applied::Applied;
 use crate::counts::{Counts, counts_of};
 use crate::manifests::Explanation;
-use crate::verdict::{Fate, Subject, Verdict};
+use crate::verdict::{Fate, Subject, Verdict, subject_name};
 use contract_words::Text;
 use icescan_forms::{Value, put_object};
 use icescan_print::{Page, Sink, SinkFault};
 use icescan_text::RunFault;
 use shared_value::Shared;
 use std::alloc::Global;
-
-fn subject_name(subject: Subject) -> &'static [u8]
-    ensures { result.now ≡ subject_name subject }
-{
-    match subject {
-        Subject::Manifest => b"manifest",
-        Subject::Data => b"data",
-        Subject::Deletes => b"delete",
-    }
-}
 
 /// To how many data files a delete file applies that is kept.
 fn applies_value<'a>(applied: &Applied, verdict: &Verdict) -> Value<'a>

@@ -29,31 +29,35 @@ pub fn fates_are_those_of_scans()
         ≡ keeps (pruner_of filter specs) l }
 {}
 
-/// What names a partition field or a column is left out by some predicate of the filter alone: by the projection of the predicate
-/// a manifest and a file that the partition leaves out, by the predicate itself a file that its bounds leave out.
+/// What names a partition field or a column is left out by some predicate of the filter alone: by the projection of the
+/// predicate a manifest and a file that the partition leaves out, by the predicate itself a file that its bounds leave
+/// out.
 pub fn named_predicates_say_no()
     ensures row { (filter : List (Part BoundPredicate)) (spec : Spec) (row : Row) (field : List ℕ) →
         row_fate (spec_tests filter spec) row ≡ ByPartition (Some field) →
         (predicate : BoundPredicate) × Contains (predicates filter) predicate
         × (summaries_allow (projection (only predicate) spec) row.partitions ≡ false) }
-    ensures partition { (specs : List Spec) (filter : List (Part BoundPredicate)) (columns : List (List ℕ)) (spec : Spec)
-        (l : Live) (field : List ℕ) →
+    ensures partition { (specs : List Spec) (filter : List (Part BoundPredicate)) (columns : List (List ℕ))
+        (spec : Spec) (l : Live) (field : List ℕ) →
         file_fate (ice_filter_tests specs filter columns) (spec_tests filter spec) l ≡ ByPartition (Some field) →
         (predicate : BoundPredicate) × Contains (predicates filter) predicate
         × (part_meets (projection (only predicate) spec) l.entry.file.tuple ≡ false) }
     ensures bounds { (specs : List Spec) (filter : List (Part BoundPredicate)) (columns : List (List ℕ)) (spec : Spec)
         (l : Live) (column : List ℕ) →
         file_fate (ice_filter_tests specs filter columns) (spec_tests filter spec) l ≡ ByBounds (Some column) →
-        (predicate : BoundPredicate) × Contains (predicates filter) predicate × (file_may (only predicate) l.bounds ≡ false) }
+        (predicate : BoundPredicate) × Contains (predicates filter) predicate
+        × (file_may (only predicate) l.bounds ≡ false) }
 {}
 
-/// What is left out names a partition field or a column, but where the filter is never met, whatever its predicates are.
+/// What is left out names a partition field or a column, but where the filter is never met, whatever its predicates
+/// are.
 pub fn left_out_names_a_predicate()
     ensures row { (filter : List (Part BoundPredicate)) (spec : Spec) (row : Row) →
         row_fate (spec_tests filter spec) row ≡ ByPartition None →
         meaning (λ (l : BoundPredicate). true) (tree_of filter) ≡ false }
-    ensures partition { (specs : List Spec) (filter : List (Part BoundPredicate)) (columns : List (List ℕ)) (spec : Spec)
-        (l : Live) → file_fate (ice_filter_tests specs filter columns) (spec_tests filter spec) l ≡ ByPartition None →
+    ensures partition { (specs : List Spec) (filter : List (Part BoundPredicate)) (columns : List (List ℕ))
+        (spec : Spec) (l : Live) →
+        file_fate (ice_filter_tests specs filter columns) (spec_tests filter spec) l ≡ ByPartition None →
         meaning (λ (l : BoundPredicate). true) (tree_of filter) ≡ false }
     ensures bounds { (specs : List Spec) (filter : List (Part BoundPredicate)) (columns : List (List ℕ)) (spec : Spec)
         (l : Live) → length (predicates filter) ≤ length columns →

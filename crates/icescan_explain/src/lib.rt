@@ -15,7 +15,6 @@ mod lines;
 mod lone;
 mod manifests;
 mod running;
-mod running_json;
 mod tests;
 mod verdict;
 
@@ -25,6 +24,5 @@ pub use laws::{fates_are_those_of_scans, left_out_names_a_predicate, named_predi
 pub use lone::{LonePredicate, LoneTest};
 pub use manifests::Explanation;
 pub use running::{explain_file, run_explain};
-pub use running_json::explain_file_json;
 pub use tests::{FilterTests, SpecTests, row_verdict};
 pub use verdict::{Fate, Subject, Verdict};

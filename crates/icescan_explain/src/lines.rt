@@ -5,7 +5,7 @@ ghost use Rattle.std.specs.List.{flat_map};
 ghost use Rattle.icescan_explain.specs.Applying.{CountsOf};
 ghost use Rattle.icescan_explain.specs.Texts.{data_left_out, data_totals, delete_totals, explanation_text};
 ghost use Rattle.icescan_explain.specs.Texts.{fate_text, kept_text};
-ghost use Rattle.icescan_explain.specs.Texts.{left_out_text, manifest_totals, partition_word, subject_word};
+ghost use Rattle.icescan_explain.specs.Texts.{left_out_text, manifest_totals, partition_word};
 ghost use Rattle.icescan_explain.specs.Texts.{totals_text, verdict_text};
 ghost use Rattle.icescan_print.specs.Written.{Sent};
 ghost use Rattle.icescan_text.specs.Writes.{WroteOrRefused};
@@ -14,7 +14,7 @@ ghost use Rattle.ice_state.specs.Lines.{OwnedLine};
 use crate::applied::Applied;
 use crate::counts::{Counts, counts_of};
 use crate::manifests::Explanation;
-use crate::verdict::{Fate, Subject, Verdict};
+use crate::verdict::{Fate, Subject, Verdict, subject_name};
 use contract_words::Text;
 use icescan_print::{Page, Sink, SinkFault, put_named_number};
 use icescan_text::RunFault;
@@ -26,16 +26,6 @@ fn push_number<I: Integer>(text: &mut Vec<u8>, name: &[u8], n: I) -> Result<(), 
     ensures { OnOk result (text.new.items ≡ text.old.items ++ (name.now ++ I.text n)) }
 {
     put_named_number(text, name, n).map_err(|_| AllocError)
-}
-
-fn subject_word(subject: Subject) -> &'static [u8]
-    ensures { result.now ≡ subject_word subject }
-{
-    match subject {
-        Subject::Manifest => b"manifest ",
-        Subject::Data => b"data ",
-        Subject::Deletes => b"delete ",
-    }
 }
 
 /// What stands before the name of a partition field.
@@ -66,7 +56,7 @@ fn put_kept<S: Sink>(
     }
 }
 
-/// Sends what says that something is left out, with a name behind the words where there is one.
+/// Sends what says that something is left out, with a name after the words where there is one.
 fn put_left_out<S: Sink>(
     page: &mut Page,
     sink: &mut S,
@@ -110,7 +100,8 @@ fn put_verdict<S: Sink>(
     ensures { (plan : List OwnedLine) → CountsOf applied.now plan →
         Sent S.taken S.may_fail sink.old page.old result sink.new page.new (verdict_text plan verdict.now) }
 {
-    page.put_named_path(sink, subject_word(verdict.subject), verdict.path.as_slice())?;
+    page.put(sink, subject_name(verdict.subject))?;
+    page.put_named_path(sink, b" ", verdict.path.as_slice())?;
     put_fate(page, sink, applied, verdict)?;
     page.put(sink, b"\n")
 }
@@ -201,10 +192,10 @@ fn put_explanation<S: Sink>(
     page.put(sink, totals)
 }
 
-/// Writes the text of an explanation and nothing else. All memory is taken before the first byte: it refuses when out of
-/// memory, and then nothing was written, or where a write fails, and then a front of the text was.
+/// Writes the text of an explanation and nothing else. All memory is taken before the first byte: it refuses when out
+/// of memory, and then nothing was written, or where a write fails, and then a front of the text was.
 #[tactic(auto, unfolding(crate::specs::Texts::explanation_text))]
-pub fn write_explanation<S: Sink>(
+pub fn write_explanation_lines<S: Sink>(
     alloc: Global,
     explanation: &Explanation,
     sink: &mut S,

@@ -255,7 +255,8 @@ pub fn explain_rows<F: Files>(
 ) -> Result<Explanation, RunFault>
     requires { AreFor tests.now selected.specs selected.filter.parts }
     ensures planned { (world : World) → F.world files.now ≡ Some world →
-        IfOk result (λ x. rows_plan over_wanted_rows world selected.specs selected.filter.parts selected.rows ≡ Ok x.plan) }
+        IfOk result (λ x. rows_plan over_wanted_rows world selected.specs selected.filter.parts selected.rows
+        ≡ Ok x.plan) }
     ensures told { (world : World) → F.world files.now ≡ Some world →
         IfOk result (λ x. x.verdicts ≡ rows_told tests.now world (by_row_path selected.rows)) }
     ensures refused { (world : World) → F.world files.now ≡ Some world →

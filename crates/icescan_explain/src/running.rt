@@ -2,25 +2,29 @@
 
 ghost use Rattle.std.specs.Prelude.{◌≡◌, ◌⊎◌, ◌<◌, ℕ, List, Some, None, Ok, IfErr, IfOk, IsErrOf, OnOk};
 ghost use Rattle.ice_desk.specs.Worlds.{EndsAt, HasAt};
-ghost use Rattle.icescan_explain.specs.AnyFiles.{IsAnExplanation, WritesAnExplanation, WroteAnExplanation};
+ghost use Rattle.icescan_explain.specs.AnyFiles.{IsAnExplanation};
 ghost use Rattle.icescan_explain.specs.Explanations.{explained, explained_at};
-ghost use Rattle.icescan_explain.specs.Writing.{WroteExplanation, WroteExplanationFront};
+ghost use Rattle.icescan_explain.specs.JsonLines.{WritesAnExplanation, WroteAnExplanationAs, WroteExplanationAs};
+ghost use Rattle.icescan_explain.specs.JsonLines.{WroteExplanationFrontAs, explanation_told};
 ghost use Rattle.icescan_requests.specs.Plans.{OnRefusal, reads, reads_at};
 ghost use Rattle.ice_state.specs.Contents.{World};
 ghost use Rattle.icescan_text.specs.Reads.{MayEnd};
+ghost use Rattle.icescan_text.specs.Writes.{WroteOrRefused};
 
 use crate::columns::columns_in;
-use crate::lines::write_explanation;
+use crate::json_lines::write_explanation_objects;
+use crate::lines::write_explanation_lines;
 use crate::manifests::{Explanation, explain_rows};
 use crate::tests::FilterTests;
 use ice_desk::Files;
+use icescan_forms::Format;
 use icescan_print::Sink;
 use icescan_requests::select_rows;
 use icescan_text::{Request, RunFault, Workers, read_file};
 use std::alloc::Global;
 
 /// The plan that a request asks for, and what became of the snapshot's manifests and live files.
-pub(crate) fn explain_table<F: Files>(
+fn explain_table<F: Files>(
     alloc: Global,
     files: &F,
     metadata: &[u8],
@@ -43,9 +47,25 @@ pub(crate) fn explain_table<F: Files>(
     explain_rows(alloc, files, &tests, selected)
 }
 
+/// Writes an explanation in a form and nothing else. All memory is taken before the first byte: it refuses when out of
+/// memory, and then nothing was written, or where a write fails, and then a front of it was.
+fn write_explanation<S: Sink>(
+    alloc: Global,
+    explanation: &Explanation,
+    format: Format,
+    sink: &mut S,
+) -> Result<(), RunFault>
+    ensures { WroteOrRefused S.taken S.may_fail sink.old result sink.new (explanation_told format explanation.now) }
+{
+    match format {
+        Format::Text => write_explanation_lines(alloc, explanation, sink),
+        Format::Json => write_explanation_objects(alloc, explanation, sink),
+    }
+}
+
 /// Explains the plan that a request asks for, of the table whose metadata these are the bytes of: writes a line for
-/// each manifest of the snapshot, by path, and behind each that is wanted one for each of its live entries, by
-/// position; and then three lines that count manifests, data files and delete files.
+/// each manifest of the snapshot, by path, and after each that is wanted one for each of its live entries, by
+/// position; and then three lines that count manifests, data files and delete files. As JSON each line is an object.
 ///
 /// The data files that are told as kept are those of the plan, and where there is no plan there is no explanation: the
 /// refusals and their order are those of `run_plan`. Then nothing was written, and neither after `Memory`. After
@@ -55,65 +75,70 @@ pub fn run_explain<F: Files, W: Sink>(
     files: &F,
     metadata: &[u8],
     request: &Request,
+    format: Format,
     output: &mut W,
 ) -> Result<(), RunFault>
     // Over files that tell their world.
     ensures written { (world : World) → F.world files.now ≡ Some world →
-        OnOk result (WroteExplanation (explained world metadata.now request.now) (W.taken output.old)
+        OnOk result (WroteExplanationAs format (explained world metadata.now request.now) (W.taken output.old)
         (W.taken output.new)) }
     ensures refused { (world : World) → F.world files.now ≡ Some world →
         IfErr result (MayEnd (explained world metadata.now request.now)
         (EndsAt world (F.may_fail files.now) (reads world metadata.now request.now)) (W.may_fail output.old)) }
     ensures front { (world : World) → F.world files.now ≡ Some world → IsErrOf result RunFault.Write →
-        WroteExplanationFront (explained world metadata.now request.now) (W.taken output.old) (W.taken output.new) }
+        WroteExplanationFrontAs format (explained world metadata.now request.now) (W.taken output.old)
+        (W.taken output.new) }
 
     // Over all files.
-    ensures text { WritesAnExplanation (F.gives files.now) metadata.now request.now result (W.taken output.old)
+    ensures text { WritesAnExplanation format (F.gives files.now) metadata.now request.now result (W.taken output.old)
         (W.taken output.new) }
     ensures refusal { OnRefusal (F.world files.now) (F.may_fail files.now) (W.may_fail output.old) result
         (W.taken output.old) (W.taken output.new) }
 {
     let explanation = explain_table(alloc, files, metadata, request)?;
-    write_explanation(alloc, &explanation, output)?;
+    write_explanation(alloc, &explanation, format, output)?;
     Ok(())
 }
 
 /// Explains the plan that a request asks for, of the table whose metadata is in the file at a path. All is read by one
 /// worker, whatever the number of workers.
 ///
-/// The refusal is `Workers` where there are to be none, or more than 64; it comes before all others, and nothing is read.
-/// Then it is `Absent` where there is no such file, `Device` where reading it failed, else as `run_explain`'s.
+/// The refusal is `Workers` where there are to be none, or more than 64; it comes before all others, and nothing is
+/// read. Then it is `Absent` where there is no such file, `Device` where reading it failed, else as `run_explain`'s.
 pub fn explain_file<F: Files, W: Sink>(
     alloc: Global,
     files: &F,
     path: &str,
     request: &Request,
     workers: usize,
+    format: Format,
     output: &mut W,
 ) -> Result<(), RunFault>
     ensures workers { (workers ≡ 0) ⊎ (64 < workers) → IsErrOf result RunFault.Workers }
 
     // Over files that tell their world.
     ensures written { (world : World) → F.world files.now ≡ Some world →
-        OnOk result (WroteExplanation (explained_at world path.now request.now workers) (W.taken output.old)
+        OnOk result (WroteExplanationAs format (explained_at world path.now request.now workers) (W.taken output.old)
         (W.taken output.new)) }
     ensures refused { (world : World) → F.world files.now ≡ Some world →
         IfErr result (MayEnd (explained_at world path.now request.now workers)
         (EndsAt world (F.may_fail files.now) (reads_at world path.now request.now)) (W.may_fail output.old)) }
     ensures front { (world : World) → F.world files.now ≡ Some world → IsErrOf result RunFault.Write →
-        WroteExplanationFront (explained_at world path.now request.now workers) (W.taken output.old)
+        WroteExplanationFrontAs format (explained_at world path.now request.now workers) (W.taken output.old)
         (W.taken output.new) }
 
     // Over all files.
     ensures text { (metadata : List ℕ) ×
-        WritesAnExplanation (F.gives files.now) metadata request.now result (W.taken output.old) (W.taken output.new) }
+        WritesAnExplanation format (F.gives files.now) metadata request.now result (W.taken output.old)
+        (W.taken output.new) }
     // And a read gave that metadata.
     ensures given { OnOk result ((metadata : List ℕ) × F.gives files.now path.now (Some metadata)
-        × WroteAnExplanation (F.gives files.now) metadata request.now (W.taken output.old) (W.taken output.new)) }
+        × WroteAnExplanationAs format (F.gives files.now) metadata request.now (W.taken output.old)
+        (W.taken output.new)) }
     ensures refusal { OnRefusal (F.world files.now) (F.may_fail files.now) (W.may_fail output.old) result
         (W.taken output.old) (W.taken output.new) }
 {
     Workers::of(workers)?;
     let metadata = read_file(alloc, files, path)?;
-    run_explain(alloc, files, &metadata, request, output)
+    run_explain(alloc, files, &metadata, request, format, output)
 }

@@ -2,6 +2,7 @@
 
 ghost use Rattle.std.specs.Prelude.{◌≡◌};
 ghost use Rattle.icescan_explain.specs.Fates.{is_kept, subject_of};
+ghost use Rattle.icescan_explain.specs.Texts.{subject_name};
 
 use contract_words::{Items, Text};
 use ice_value::FileContent;
@@ -27,6 +28,17 @@ impl Subject {
             FileContent::Data => Subject::Data,
             FileContent::PositionDeletes | FileContent::EqualityDeletes => Subject::Deletes,
         }
+    }
+}
+
+/// The word for a subject in an explanation.
+pub fn subject_name(subject: Subject) -> &'static [u8]
+    ensures { result.now ≡ subject_name subject }
+{
+    match subject {
+        Subject::Manifest => b"manifest",
+        Subject::Data => b"data",
+        Subject::Deletes => b"delete",
     }
 }
 

@@ -8,12 +8,15 @@ ghost use Rattle.std.specs.IoError.{error_kind};
 ghost use Rattle.icescan_files.specs.Folders.{Inside, IsNamed, has_dots, is_dots};
 
 mod disk;
+mod links;
 mod placing;
 
 use crate::bundle::find_byte;
 use crate::input::{MOST_READS, read_all_into};
 pub use disk::{Disk, HostDisk};
 use ice_desk::{Files, ReadFault};
+pub use links::Links;
+use links::meets_link;
 pub use placing::{CommitFolder, DiskFolder};
 use std::alloc::{AllocError, Global};
 use std::fs::{self, Metadata};
@@ -21,23 +24,41 @@ use std::io::{self, ErrorKind};
 
 /// Files below a folder. A path that begins with the prefix is the file that its rest names below the folder; any other
 /// path, and one with a segment `.` or `..` behind the prefix, is absent, and nothing is opened. What is no regular
-/// file is not opened either. What lies below a folder may change from one read to the next, so it tells no world.
+/// file is not opened either, nor a path at which a link is met, where links are refused. What lies below a folder may
+/// change from one read to the next, so it tells no world.
 #[derive(Drop)]
 pub struct Folder<'a, H> {
     host: &'a H,
     folder: &'a str,
     prefix: &'a str,
+    links: Links,
 }
 
 impl<'a, H: std::rt::Files> Folder<'a, H> {
-    /// The files of `host` below a folder, of the paths that begin with a prefix.
+    /// The files of `host` below a folder, of the paths that begin with a prefix. Links are followed.
     pub fn new(host: &'a H, folder: &'a str, prefix: &'a str) -> Self
+        ensures { (result.folder.now ≡ folder.now) × (result.prefix.now ≡ prefix.now) }
+    {
+        Folder::by_links(host, folder, prefix, Links::Followed)
+    }
+
+    /// The same files, with links followed or refused.
+    pub fn by_links(host: &'a H, folder: &'a str, prefix: &'a str, links: Links) -> Self
         ensures { (result.folder.now ≡ folder.now) × (result.prefix.now ≡ prefix.now) }
     {
         Folder {
             host,
             folder,
             prefix,
+            links,
+        }
+    }
+
+    /// Whether links are refused, and one is met at a path.
+    fn refuses(&self, alloc: Global, path: &str) -> Result<bool, AllocError> {
+        match (self.links, rest_of(self.prefix, path)) {
+            (Links::Refused, Some(rest)) => meets_link(alloc, self.host, self.folder, rest),
+            _ => Ok(false),
         }
     }
 }
@@ -165,6 +186,11 @@ impl<H: std::rt::Files> Files for Folder<'_, H> {
         let Some(name) = name else {
             return Err(ReadFault::Absent);
         };
+        match self.refuses(alloc, path) {
+            Ok(false) => {}
+            Ok(true) => return Err(ReadFault::Device),
+            Err(_) => return Err(ReadFault::Memory),
+        }
         let mut file = open_regular(self.host, name.as_str())?;
         read_all_into(alloc, &mut file, MOST_READS, bytes)
     }

@@ -5,7 +5,7 @@ ghost use Rattle.ice_desk.specs.Worlds.{HasAt};
 ghost use Rattle.ice_state.specs.Contents.{World};
 ghost use Rattle.icescan_files.specs.Bundles.{File};
 
-use crate::folder::{CommitFolder, Folder, is_outside};
+use crate::folder::{CommitFolder, Folder, Links, is_outside};
 use crate::listing::names_in_folder;
 use crate::store::{Store, StoreFault};
 use contract_words::Text;
@@ -97,12 +97,18 @@ impl<D: Folders> Files for Below<'_, D> {
 #[derive(Drop)]
 pub struct HostFolders<'a, H> {
     host: &'a H,
+    links: Links,
 }
 
 impl<'a, H: std::rt::Files> HostFolders<'a, H> {
-    /// The folders of this host.
+    /// The folders of this host. Links below them are followed.
     pub fn new(host: &'a H) -> Self {
-        HostFolders { host }
+        HostFolders::by_links(host, Links::Followed)
+    }
+
+    /// The folders of this host, with links below them followed or refused.
+    pub fn by_links(host: &'a H, links: Links) -> Self {
+        HostFolders { host, links }
     }
 }
 
@@ -121,7 +127,8 @@ impl<H: std::rt::Files> Folders for HostFolders<'_, H> {
         path: &str,
         bytes: &mut Vec<u8>,
     ) -> Result<(), ReadFault> {
-        Folder::new(self.host, folder, prefix).read_into(alloc, path, bytes)
+        let files = Folder::by_links(self.host, folder, prefix, self.links);
+        files.read_into(alloc, path, bytes)
     }
 
     ghost lists = { λ _ _ _. Unit {0} };
@@ -169,14 +176,21 @@ impl Entered {
 #[derive(Drop)]
 pub struct HostStores<'a, H> {
     host: &'a H,
+    links: Links,
     entered: Option<Entered>,
 }
 
 impl<'a, H: std::rt::Files> HostStores<'a, H> {
-    /// The folders of this host; none is entered.
+    /// The folders of this host; none is entered. Links below them are followed.
     pub fn new(host: &'a H) -> Self {
+        HostStores::by_links(host, Links::Followed)
+    }
+
+    /// The folders of this host, with links below them followed or refused; none is entered.
+    pub fn by_links(host: &'a H, links: Links) -> Self {
         HostStores {
             host,
+            links,
             entered: None,
         }
     }
@@ -197,10 +211,11 @@ impl<H: std::rt::Files> Store for HostStores<'_, H> {
     fn create_new(&mut self, alloc: Global, path: &str, bytes: &[u8]) -> Result<(), StoreFault> {
         match &self.entered {
             Some(entered) => {
-                let folder = Folder::new(
+                let folder = Folder::by_links(
                     self.host,
                     entered.folder.as_str(),
                     entered.prefix.as_str(),
+                    self.links,
                 );
                 CommitFolder::new(folder, &entered.ids).create_new(alloc, path, bytes)
             }

@@ -12,7 +12,7 @@ mod store;
 
 pub use bundle::Bundle;
 pub use bundle_text::read_bundle;
-pub use folder::{CommitFolder, Disk, DiskFolder, Folder, HostDisk, file_name};
+pub use folder::{CommitFolder, Disk, DiskFolder, Folder, HostDisk, Links, file_name};
 pub use folders::{Below, Folders, HostFolders, HostStores, Stores};
 pub use input::{MOST_READS, read_all};
 pub use store::{Store, StoreFault, put_files};

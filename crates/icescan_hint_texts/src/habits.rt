@@ -137,33 +137,18 @@ struct Foreign {
     advice: &'static str,
 }
 
-const LIKE: &str = "write `note starts with 'a'` for `note like 'a%'`; there are no other patterns";
+/// Words for patterns of texts, in lower case.
+const PATTERNS: [&str; 4] = ["like", "ilike", "rlike", "contains"];
 
 const NULL: &str = "a test for null is `cat is null` or `cat is not null`";
 
 const DATE: &str =
     "a date is its days, and a time its microseconds, since 1970-01-01 00:00 UTC: `day >= 19790`";
 
-const FOREIGN: [Foreign; 9] = [
+const FOREIGN: [Foreign; 4] = [
     Foreign {
         word: "not",
         advice: NOT,
-    },
-    Foreign {
-        word: "between",
-        advice: "write two comparisons for `between`: `id >= 1 and id <= 9`",
-    },
-    Foreign {
-        word: "like",
-        advice: LIKE,
-    },
-    Foreign {
-        word: "ilike",
-        advice: LIKE,
-    },
-    Foreign {
-        word: "rlike",
-        advice: LIKE,
     },
     Foreign {
         word: "null",
@@ -176,10 +161,6 @@ const FOREIGN: [Foreign; 9] = [
     Foreign {
         word: "timestamp",
         advice: DATE,
-    },
-    Foreign {
-        word: "contains",
-        advice: LIKE,
     },
 ];
 
@@ -226,6 +207,36 @@ fn of_sign(before: &str, rest: &str) -> Option<&'static str> {
 fn of_foreign(word: &str) -> Option<&'static str> {
     let foreign = FOREIGN.iter().find(|foreign| is_word(word, foreign.word))?;
     Some(foreign.advice)
+}
+
+/// The column that stands last in a text, before a `not`: its field path, where that is of plain names.
+fn last_column(text: &str) -> Option<&str> {
+    let text = text.trim_end();
+    let text = text.strip_suffix(" not").unwrap_or(text).trim_end();
+    let column = match text.rsplit_once(|c: char| !is_of_name(c) && c != '.') {
+        Some((_, column)) => column,
+        None => text,
+    };
+    if column.is_empty() {
+        None
+    } else {
+        Some(column)
+    }
+}
+
+/// What to write for a word of another language that asks of the column before it.
+fn of_question(alloc: Global, before: &str, word: &str) -> Result<Option<String>, AllocError> {
+    let column = last_column(before).unwrap_or("id");
+    let advice = if is_word(word, "between") {
+        format!(in alloc; "write two comparisons for `between`: `{column} >= 1 and {column} <= 9`")?
+    } else if PATTERNS.iter().any(|pattern| is_word(word, pattern)) {
+        format!(in alloc;
+            "write `{column} starts with 'a'` for `{column} like 'a%'`; there are no other patterns"
+        )?
+    } else {
+        return Ok(None);
+    };
+    Ok(Some(advice))
 }
 
 /// The word of the language that a word is but for its capital letters.
@@ -287,6 +298,8 @@ fn add_word(hint: &mut Hint, alloc: Global, before: &str, word: &str) -> Result<
             alloc,
             format!(in alloc; "words of the language are in lower case: `{own}`")?,
         )?;
+    } else if let Some(advice) = of_question(alloc, before, word)? {
+        hint.here(alloc, advice)?;
     } else if let Some(advice) = of_foreign(word) {
         hint.tell(alloc, advice)?;
     } else if is_word(last, "not") && last != "not" {

@@ -19,8 +19,8 @@ pub fn place_of(asked: &Command) -> Option<&Place> {
         Command::Audit(Source::Folder(place), _, _, _, _) => Some(place),
         Command::Explain(Source::Folder(place), _, _, _, _) => Some(place),
         Command::Changes(Source::Folder(place), _, _, _, _) => Some(place),
-        Command::Reachable(Source::Folder(place), _, _) => Some(place),
-        Command::Orphans(place, _, _) => Some(place),
+        Command::Reachable(Source::Folder(place), _, _, _) => Some(place),
+        Command::Orphans(place, _, _, _) => Some(place),
         _ => None,
     }
 }
@@ -47,8 +47,8 @@ impl<'a, F: Files> Case<'a, F> {
             | Command::Audit(_, _, _, _, path)
             | Command::Explain(_, _, _, _, path)
             | Command::Changes(_, _, _, _, path)
-            | Command::Reachable(_, _, path)
-            | Command::Orphans(_, _, path) => Some(path.as_str()),
+            | Command::Reachable(_, _, _, path)
+            | Command::Orphans(_, _, _, path) => Some(path.as_str()),
             Command::Commit(_, request) => Some(request.metadata.as_str()),
             _ => None,
         }

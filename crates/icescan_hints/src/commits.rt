@@ -2,14 +2,16 @@
 
 use crate::case::Case;
 use crate::changes::{add_bad_file, add_fields};
-use crate::paths::add_named;
+use crate::paths::{add_file_name, add_named};
 use crate::tables::add_specs;
 use contract_words::{Items, Text};
 use ice_catalog_changes::PrepareFault;
 use ice_catalog_versions::Prepared;
 use ice_desk::Files;
+use icescan_files::file_name;
 use icescan_hint_texts::{Hint, quoted};
 use icescan_text::{ChangeFault, CommitRequest};
+use icescan_words::Place;
 use std::alloc::{AllocError, Global};
 
 /// How many files of a commit are told at most.
@@ -61,8 +63,23 @@ fn add_made<F: Files>(
     }
 }
 
-/// Adds what could not be written. Of a commit: which files stand at their places, and whether it was made, where it
-/// could be prepared once more.
+/// Adds why no file can stand at the path of `--out`, and gives whether that is so.
+fn add_outside(
+    hint: &mut Hint,
+    alloc: Global,
+    place: &Place,
+    out: &str,
+) -> Result<bool, AllocError> {
+    if file_name(alloc, place.folder.as_str(), place.prefix.as_str(), out)?.is_some() {
+        return Ok(false);
+    }
+    add_named(hint, alloc, "`--out`", out)?;
+    add_file_name(hint, alloc, place, out)?;
+    Ok(true)
+}
+
+/// Adds what could not be written. Of a commit: why `--out` names no place, or which files stand at their places, and
+/// whether it was made, where it could be prepared once more.
 pub fn add_unwritten<F: Files>(
     hint: &mut Hint,
     alloc: Global,
@@ -72,6 +89,11 @@ pub fn add_unwritten<F: Files>(
     let (Some(request), Some(_)) = (case.commit(), case.files) else {
         return hint.here(alloc, format!(in alloc; "standard output")?);
     };
+    if let Some(place) = case.place() {
+        if add_outside(hint, alloc, place, request.out.as_str())? {
+            return Ok(());
+        }
+    }
     let Some(prepared) = again else {
         return Ok(());
     };

@@ -42,7 +42,7 @@ const NO_SUCH_REF: Sentence = Sentence {
 const NO_SUCH_SNAPSHOT: Sentence = Sentence {
     name: "M7 NoSuchSnapshot",
     wrong: "there is no snapshot of that id",
-    advice: Some("`icescan show` lists them; it may have expired"),
+    advice: Some("`icescan show` lists them; the snapshot may have expired"),
 };
 
 const NO_SNAPSHOT: Sentence = Sentence {

@@ -36,8 +36,8 @@ stands for it; where an expiry deleted the file, plan a newer snapshot",
 
 const DEVICE: Sentence = Sentence {
     name: "P3 Device",
-    wrong: "the file may be there, and reading it failed: a folder, a pipe or a device, links in a circle, no
-right to read it, no end within 16,777,216 reads; `-` is standard input",
+    wrong: "the file may be there, and reading it failed: a folder, a pipe or a device, links in a circle or,
+with `--no-links`, any link, no right to read it, no end within 16,777,216 reads; `-` is standard input",
     advice: Some("look at its rights and at the disk; try again"),
 };
 
@@ -72,7 +72,7 @@ const COMPRESSED: Sentence = Sentence {
 
 const WORKERS: Sentence = Sentence {
     name: "P5 Workers",
-    wrong: "the number behind `--workers` is 0, or over 64",
+    wrong: "the number after `--workers` is 0, or over 64",
     advice: Some("ask for 1 to 64; as many as there are processors is a good choice"),
 };
 
@@ -86,9 +86,9 @@ const WRITE: Sentence = Sentence {
 
 const NOT_STORED: Sentence = Sentence {
     name: "W1 Write",
-    wrong: "a new file of the commit can't be put at its place, since the folder is not there or may not be
-read, another file is, or the path is not below the prefix; or the file or its folder can't be
-synced; or the commit was made, and its answer can't be written",
+    wrong: "a new file of the commit can't be put at its place, since the folder is not there, may not be
+read or, with `--no-links`, is behind a link, another file is, or the path is not below the prefix; or
+the file or its folder can't be synced; or the commit was made, and its answer can't be written",
     advice: Some(
         "look at the disk, and commit again under a new UUID; a commit whose metadata stands at `--out`
 was made",

@@ -19,18 +19,12 @@ use Rattle.icescan_text.proofs.Steps.{ends_before, same_next}
 use Rattle.icescan_text.proofs.Enough.{enough}
 use Rattle.icescan_json.specs.JsonAnswers.{typed_answer_at, typed_answer_by}
 use Rattle.icescan_json.specs.declared.typed.TypedPlan.{TypedPlan}
-use Rattle.icescan_json.proofs.AnswersTold.{of_metadata, same_at}
+use Rattle.icescan_json.proofs.AnswersTold.{same_at}
 
 abbrev with_types : Selection → List OwnedLine → TypedPlan
 with_types selection plan = record { types = map spec_types selection.specs; plan = plan }
 
 module _ (ending : Ending) (world : World) (metadata : List ℕ) (request : Request) where
-  -- a refusal of the plan is one of the answer
-  pub refused_typed : (r : List ℕ → Type 0) (e : RunFault) → MayEnd (answer_by ending world metadata request) r ⊥ e
-      → MayEnd (typed_answer_by ending world metadata request) r ⊥ e
-  refused_typed r e h = ends_before r (typed_answer_by ending world metadata request) (λ typed. typed.plan) e
-      (subst (λ a. MayEnd a r ⊥ e) (sym (of_metadata ending world metadata request)) h)
-
   typed_there : (selection : Selection) (plan : List OwnedLine) → selected metadata request ≡ Ok selection
       → answer_by ending world metadata request ≡ Ok plan
       → typed_answer_by ending world metadata request ≡ Ok (with_types selection plan)

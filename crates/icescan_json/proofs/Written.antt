@@ -1,20 +1,17 @@
 -- What is written of an answer in JSON, and why it may end.
-use Rattle.std.proofs.Common.{◌≡◌, ◌≢◌, ◌⊎◌, ◌<◌, ◌≤◌, ◌∙◌, inl, inr, ℕ, List, Option, sym, ap, subst}
+use Rattle.std.proofs.Common.{◌≡◌, ◌≢◌, ◌⊎◌, ◌<◌, inl, inr, ℕ, List, Option, sym, ap, subst}
 use Rattle.std.specs.Prelude.{Result, Ok, Err, OnOk, IfErr, IsErrOf}
 use Rattle.std.proofs.lemmas.Result.{on_ok_weaker}
-use Rattle.icescan_json.specs.Texts.{IsJsonOf}
-use Rattle.icescan_json.specs.declared.types.SpecTypes.{SpecTypes}
 use Rattle.icescan_print.specs.Written.{Appends, AppendsFront}
 use Rattle.icescan_requests.specs.Plans.{Ending}
 use Rattle.ice_state.specs.Contents.{World}
-use Rattle.ice_state.specs.Lines.{OwnedLine}
 use Rattle.icescan_text.specs.Reads.{MayEnd}
 use Rattle.icescan_text.specs.declared.fault.RunFault.{RunFault}
 use Rattle.icescan_text.specs.declared.fault.RunFault.TheVariants as run
 use Rattle.icescan_text.specs.declared.request.Request.{Request}
 use Rattle.icescan_text.specs.Workers.{by_workers}
 use Rattle.icescan_text.proofs.Steps.{may_write}
-use Rattle.icescan_text.proofs.Enough.{enough, not_enough}
+use Rattle.icescan_text.proofs.Enough.{not_enough}
 use Rattle.icescan_json.specs.JsonAnswers.{AnswersInJson, IsJsonOfPlan, WritesJson, WroteJsonThat}
 use Rattle.icescan_json.specs.JsonAnswers.{typed_answer_at}
 use Rattle.icescan_json.specs.declared.typed.TypedPlan.{TypedPlan}
@@ -63,14 +60,6 @@ pub json_that : (so : TypedPlan → Type 0) (typed : TypedPlan) (result : Result
     → OnOk result (WroteJsonThat so o o')
 json_that so typed result o o' is all = on_ok_weaker result (λ t. (typed, is, t.0, t.1, t.2)) all
 
--- the same by so many workers, of which there are enough
-pub refused_by_workers : (answer other : Result TypedPlan RunFault) (workers : ℕ) (r : List ℕ → Type 0) (w : Type 0)
-    (e : RunFault) (o o' : Option (List ℕ)) → 0 < workers → workers ≤ 64 → other ≡ answer → MayEnd answer r ⊥ e
-    → (e ≢ run.Write) → AnswersInJson (by_workers workers other) r w (Err e) o o'
-refused_by_workers answer other workers r w e o o' some few same h not_write =
-    subst (λ a. AnswersInJson a r w (Err e) o o') (sym (enough workers other some few ∙ same))
-    (refused_json answer r w e o o' h not_write)
-
 -- a number of workers that there may not be
 pub no_workers : (workers : ℕ) (read : Result TypedPlan RunFault) (r : List ℕ → Type 0) (w : Type 0) (e : RunFault)
     (o o' : Option (List ℕ)) → (e ≡ run.Workers) × ((workers ≡ 0) ⊎ (64 < workers))
@@ -85,8 +74,3 @@ pub no_workers_at : (ending : Ending) (world : World) (path : List ℕ) (request
     → AnswersInJson (typed_answer_at ending world path request workers) r w (Err e) o o'
 unfolding typed_answer_at
 no_workers_at ending world path request workers r w e o o' h = no_workers workers _ r w e o o' h
-
--- the same types, the same JSON
-pub typed_json : {types known : List SpecTypes} {plan : List OwnedLine} {text : List ℕ} → types ≡ known
-    → IsJsonOf types plan text → IsJsonOf known plan text
-typed_json {plan = plan} {text = text} same json = subst (λ types. IsJsonOf types plan text) same json

@@ -7,7 +7,6 @@ use Rattle.serde_json.specs.Read.{read}
 use Rattle.icescan_json.specs.Texts.{IsJsonOf}
 use Rattle.icescan_json.specs.Told.{paths_of, told}
 use Rattle.icescan_json.specs.Types.{spec_types}
-use Rattle.icescan_json.specs.declared.types.SpecTypes.{SpecTypes}
 use Rattle.icescan_json.specs.declared.typed.TypedPlan.{TypedPlan}
 use Rattle.icescan_print.specs.Written.{Appends, AppendsFront}
 use Rattle.ice_desk.specs.Given.{Giving}
@@ -90,11 +89,6 @@ pub record AnswersInJson (answer : Result TypedPlan RunFault) (may_fail_at : Lis
 abbrev pub WroteJsonThat : (TypedPlan → Type 0) → Option (List ℕ) → Option (List ℕ) → Type 0
 WroteJsonThat so output output' = (typed : TypedPlan) × so typed × (text : List ℕ) × IsJsonOfPlan typed text
     × Appends output output' text
-
--- a JSON of some plan by these types
-abbrev pub WroteWithTypes : List SpecTypes → Option (List ℕ) → Option (List ℕ) → Type 0
-WroteWithTypes types output output' =
-    (plan : List OwnedLine) × (text : List ℕ) × IsJsonOf types plan text × Appends output output' text
 
 -- What was written, whatever the files tell of themselves: the JSON of a plan, and after a failed write a front of one.
 pub record WritesJson (result : Result Unit RunFault) (output output' : Option (List ℕ)) : Type 0 where

@@ -170,13 +170,24 @@ pub fn put_date<S: Sink>(page: &mut Page, sink: &mut S, day: i64) -> Result<(), 
     put_dated(page, sink, day, b"", b"")
 }
 
+/// Two digits of each of three numbers.
+fn six_digits(first: u8, second: u8, third: u8) -> [u8; 6]
+    requires first { first < 100 }
+    requires second { second < 100 }
+    requires third { third < 100 }
+    ensures { result ≡ two_digits first ++ (two_digits second ++ two_digits third) }
+{
+    let [a, b] = two_digits(first);
+    let [c, d] = two_digits(second);
+    let [e, f] = two_digits(third);
+    [a, b, c, d, e, f]
+}
+
 fn seconds_text(n: u32) -> [u8; 8]
     requires { n < 86_400 }
     ensures { result ≡ seconds_text n }
 {
-    let [a, b] = two_digits((n / 3_600) as u8);
-    let [c, d] = two_digits((n / 60 % 60) as u8);
-    let [e, f] = two_digits((n % 60) as u8);
+    let [a, b, c, d, e, f] = six_digits((n / 3_600) as u8, (n / 60 % 60) as u8, (n % 60) as u8);
     [a, b, b':', c, d, b':', e, f]
 }
 
@@ -184,10 +195,7 @@ fn micros_text(n: u32) -> [u8; 6]
     requires { n < 1_000_000 }
     ensures { result ≡ micros_text n }
 {
-    let [a, b] = two_digits((n / 10_000) as u8);
-    let [c, d] = two_digits((n / 100 % 100) as u8);
-    let [e, f] = two_digits((n % 100) as u8);
-    [a, b, c, d, e, f]
+    six_digits((n / 10_000) as u8, (n / 100 % 100) as u8, (n % 100) as u8)
 }
 
 /// The text of a time of the day, in microseconds.

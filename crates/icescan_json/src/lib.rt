@@ -18,6 +18,6 @@ pub use answers::{json_answers_are_plans, json_answers_tell_plans};
 pub use laws::{json_is_the_plan, json_reads_back, json_tells_all};
 pub use list_plans::run_list_plan_json;
 pub use plan::{write_plan_json, write_typed_plan};
-pub use table_plans::{plan_file_json, run_plan_json_with};
+pub use table_plans::plan_file_json;
 pub use typed::TypedPlan;
 pub use types::{SpecTypes, types_of_specs};

@@ -20,8 +20,8 @@ use std::alloc::Global;
 /// that was planned. The table is taken as one without partitions; as no types of partition values are known, each is
 /// written as what it is.
 ///
-/// The refusals, and their order, are those of `icescan_requests::run_list_plan`. After any refusal but `Write` nothing was
-/// written, and after that one a front of the text was.
+/// The refusals, and their order, are those of `icescan_requests::run_list_plan`. After any refusal but `Write` nothing
+/// was written, and after that one a front of the text was.
 pub fn run_list_plan_json<F: Files, W: Sink>(
     alloc: Global,
     files: &F,

@@ -1,56 +1,23 @@
 //! The plan of a table's snapshot as JSON.
 
-ghost use Rattle.std.specs.Prelude.{◌≡◌, ◌⊎◌, ◌<◌, ◌↔◌, ℕ, List, Some, None, Ok, OnOk, IfOk, IfErr, IsErrOf, map};
+ghost use Rattle.std.specs.Prelude.{◌≡◌, ◌⊎◌, ◌<◌, ◌↔◌, ℕ, List, Some, None, Ok, OnOk, IfOk, IfErr, IsErrOf};
 ghost use Rattle.ice_desk.specs.Worlds.{EndsAt, HasAt};
-ghost use Rattle.icescan_json.specs.Types.{spec_types};
-ghost use Rattle.icescan_json.specs.JsonAnswers.{AnswersInJson, IsTypedOfGiven, IsTypedOfGivenAt};
-ghost use Rattle.icescan_json.specs.JsonAnswers.{WritesJson, WroteJsonThat, WroteWithTypes};
-ghost use Rattle.icescan_json.specs.JsonAnswers.{typed_answer_at, typed_answer_by};
-ghost use Rattle.icescan_requests.specs.Plans.{OnRefusal, TellsTheTruth, TellsTheTruthAt};
-ghost use Rattle.icescan_requests.specs.Plans.{over_all_rows, over_wanted_rows, reads, reads_at};
-ghost use Rattle.icescan_requests.specs.Selections.{selected};
-ghost use Rattle.icescan_requests.specs.declared.selection.Selection.{Selection};
+ghost use Rattle.icescan_json.specs.JsonAnswers.{AnswersInJson, IsTypedOfGivenAt, WritesJson, WroteJsonThat};
+ghost use Rattle.icescan_json.specs.JsonAnswers.{typed_answer_at};
+ghost use Rattle.icescan_requests.specs.Plans.{OnRefusal, TellsTheTruthAt, over_all_rows, over_wanted_rows, reads_at};
 ghost use Rattle.ice_state.specs.Contents.{World};
 ghost use Rattle.icescan_text.specs.Reads.{MayEnd};
-ghost use Rattle.icescan_text.specs.Workers.{by_workers};
 
 use crate::typed::{TypedPlan, write_json};
-use ice_desk::{Files, Gate};
+use ice_desk::Files;
 use icescan_print::Sink;
-use icescan_requests::{plan_table, plan_table_at, plans_of_true_summaries};
+use icescan_requests::{plan_table_at, plans_of_true_summaries};
 use icescan_text::{Request, RunFault, Workers};
 use std::alloc::Global;
 use std::thread::Threads;
 
-/// The plan that a request asks for, of the table whose metadata these are the bytes of, by so many workers; and the
+/// The plan that a request asks for, of the table whose metadata is in the file at a path, by so many workers; and the
 /// types of the partition values of the table's specs.
-fn typed_table<R: Threads + Sync, F: Files + Sync, G: Gate + Sync>(
-    rt: &R,
-    alloc: Global,
-    files: &F,
-    metadata: &[u8],
-    request: &Request,
-    workers: Workers,
-    gate: &G,
-) -> Result<TypedPlan, RunFault>
-    ensures found { (world : World) → F.world files.now ≡ Some world →
-        IfOk result (λ typed. typed_answer_by over_wanted_rows world metadata.now request.now ≡ Ok typed) }
-    ensures refused { (world : World) → F.world files.now ≡ Some world →
-        IfErr result (MayEnd (typed_answer_by over_wanted_rows world metadata.now request.now)
-        (EndsAt world (F.may_fail files.now) (reads world metadata.now request.now)) ⊥) }
-    ensures typed { IfOk result (λ typed. (selection : Selection) × (selected metadata.now request.now ≡ Ok selection)
-        × (typed.types ≡ map spec_types selection.specs)) }
-    ensures absent { (path : List ℕ) → IsErrOf result (RunFault.Absent path) → HasAt (F.world files.now) path None }
-    ensures device { (path : List ℕ) → IsErrOf result (RunFault.Device path) → F.may_fail files.now path }
-    ensures write { IsErrOf result RunFault.Write → ⊥ }
-    ensures workers { IsErrOf result RunFault.Workers → ⊥ }
-    ensures given { IfOk result (IsTypedOfGiven (F.gives files.now) metadata.now request.now) }
-{
-    let planned = plan_table(rt, alloc, files, metadata, request, workers, gate)?;
-    Ok(TypedPlan::of(alloc, planned)?)
-}
-
-/// The same of the table whose metadata is in the file at a path.
 fn typed_table_at<R: Threads + Sync, F: Files + Sync>(
     rt: &R,
     alloc: Global,
@@ -75,53 +42,8 @@ fn typed_table_at<R: Threads + Sync, F: Files + Sync>(
 }
 
 /// Writes the plan that a request asks for as JSON, in one line: the answer of an Iceberg REST catalog to a scan that
-/// was planned. The table is the one whose metadata these are the bytes of. So many workers, from 1 to 64, read and take
-/// the wanted manifests at once, each in a thread of its own where one can be started; `gate` is told of each of their
-/// reads. The JSON is written by one.
-///
-/// The plan, the refusals and their order are those of `icescan_requests::run_plan_with`, whatever the number of workers.
-/// After any refusal but `Write` nothing was written, and after that one a front of the text was.
-pub fn run_plan_json_with<R: Threads + Sync, F: Files + Sync, G: Gate + Sync, W: Sink>(
-    rt: &R,
-    alloc: Global,
-    files: &F,
-    metadata: &[u8],
-    request: &Request,
-    workers: usize,
-    gate: &G,
-    output: &mut W,
-) -> Result<(), RunFault>
-    ensures workers { IsErrOf result RunFault.Workers ↔ ((workers ≡ 0) ⊎ (64 < workers)) }
-
-    // Over files that tell their world, where the summaries of the rows tell the truth: the answer over all rows.
-    ensures plan { (world : World) → F.world files.now ≡ Some world → TellsTheTruth world metadata.now request.now →
-        AnswersInJson (by_workers workers (typed_answer_by over_all_rows world metadata.now request.now))
-        (EndsAt world (F.may_fail files.now) (reads world metadata.now request.now))
-        (W.may_fail output.old) result (W.taken output.old) (W.taken output.new) }
-    // Whatever the summaries say: the answer over the wanted rows.
-    ensures wanted { (world : World) → F.world files.now ≡ Some world →
-        AnswersInJson (by_workers workers (typed_answer_by over_wanted_rows world metadata.now request.now))
-        (EndsAt world (F.may_fail files.now) (reads world metadata.now request.now))
-        (W.may_fail output.old) result (W.taken output.old) (W.taken output.new) }
-
-    // Over all files.
-    ensures selection { OnOk result ((selection : Selection) × (selected metadata.now request.now ≡ Ok selection)
-        × WroteWithTypes (map spec_types selection.specs) (W.taken output.old) (W.taken output.new)) }
-    ensures text { WritesJson result (W.taken output.old) (W.taken output.new) }
-    ensures refusal { OnRefusal (F.world files.now) (F.may_fail files.now) (W.may_fail output.old) result
-        (W.taken output.old) (W.taken output.new) }
-    // What is written is the plan of bytes that reads gave.
-    ensures given { OnOk result (WroteJsonThat (IsTypedOfGiven (F.gives files.now) metadata.now request.now)
-        (W.taken output.old) (W.taken output.new)) }
-{
-    let workers = Workers::of(workers)?;
-    plans_of_true_summaries();
-    let typed = typed_table(rt, alloc, files, metadata, request, workers, gate)?;
-    write_json(alloc, &typed, output)
-}
-
-/// Writes the plan that a request asks for as JSON, of the table whose metadata is in the file at a path, by so many
-/// workers.
+/// was planned. The table is the one whose metadata is in the file at a path. So many workers, from 1 to 64, read and
+/// take the wanted manifests at once, each in a thread of its own where one can be started. The JSON is written by one.
 ///
 /// The refusals and their order are those of `icescan_requests::plan_file`: `Workers` comes before all others, and then
 /// nothing is read. After any refusal but `Write` nothing was written, and after that one a front of the text was.

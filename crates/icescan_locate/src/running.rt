@@ -138,9 +138,9 @@ fn files_below<S: Folders>(
 /// Writes each metadata file of the table in a folder, the newest first: the number in its name, the time that it says,
 /// and its name.
 ///
-/// The refusal is `Locate` where there is no folder `metadata`, or no metadata file in it; `Device` where that folder or
-/// one of the files can't be read; `Write` where a write failed, and then a front of the lines was written; or `Memory`.
-/// After any refusal but `Write` nothing was written.
+/// The refusal is `Locate` where there is no folder `metadata`, or no metadata file in it; `Device` where that folder
+/// or one of the files can't be read; `Write` where a write failed, and then a front of the lines was written; or
+/// `Memory`. After any refusal but `Write` nothing was written.
 pub fn locate_all<S: Folders, W: Sink>(
     alloc: Global,
     folders: &S,

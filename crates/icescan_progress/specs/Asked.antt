@@ -1,4 +1,5 @@
--- What of a run is shown beside its answer, by its words and by whether standard error is a terminal.
+-- What of a run is shown beside its answer, by its words and by whether standard error is a terminal; and whether its
+-- words refuse links.
 use Rattle.std.specs.Prelude.{ℕ, List, Bool, not, ◌&&◌, ◌||◌, codes}
 use Rattle.std.specs.List.{list_any}
 use Rattle.std.specs.Str.{bytes_eq}
@@ -18,3 +19,7 @@ shows_progress errors_is_terminal words = errors_is_terminal && not (has_word (c
 -- whether faults have hints
 abbrev pub hints : Bool → List (List ℕ) → Bool
 hints errors_is_terminal words = errors_is_terminal || asks_hints words
+
+-- whether links below a folder are refused
+abbrev pub refuses_links : List (List ℕ) → Bool
+refuses_links words = has_word (codes "--no-links") words

@@ -1,7 +1,8 @@
-//! What of a run is shown beside its answer, by its words and by which of the program's ends are terminals.
+//! What of a run is shown beside its answer, by its words and by which of the program's ends are terminals; and whether
+//! its words refuse links.
 
 ghost use Rattle.std.specs.Prelude.{◌≡◌, map, string_bytes};
-ghost use Rattle.icescan_progress.specs.Asked.{asks_hints, has_word, hints, shows_progress};
+ghost use Rattle.icescan_progress.specs.Asked.{asks_hints, has_word, hints, refuses_links, shows_progress};
 
 /// Which of the program's ends are terminals.
 #[derive(Clone, Copy, Debug)]
@@ -36,4 +37,11 @@ pub fn shows_hints(terminals: Terminals, words: &[String]) -> bool
     ensures { result ≡ hints terminals.errors (map string_bytes words.now) }
 {
     terminals.errors || asks_hints(words)
+}
+
+/// Whether no file is read or put through a link below a folder.
+pub fn refuses_links(words: &[String]) -> bool
+    ensures { result ≡ refuses_links (map string_bytes words.now) }
+{
+    has_word(words, "--no-links")
 }

@@ -10,7 +10,7 @@ mod progress_text;
 mod showing;
 mod watched;
 
-pub use asked::{Terminals, shows_hints, shows_progress};
+pub use asked::{Terminals, refuses_links, shows_hints, shows_progress};
 pub use cleared::Cleared;
 pub use progress_line::{ProgressLine, Screen};
 pub use showing::put_lines;

@@ -50,7 +50,8 @@
 #![tactic(auto)]
 
 use icescan_commands::{
-    AgedFolders, HostFolders, HostStores, Looks, Silent, System, Terminals, Watch, run_program,
+    AgedFolders, HostFolders, HostStores, Looks, Silent, System, Terminals, Watch, links_of,
+    run_program,
 };
 use std::alloc::{AllocError, Global};
 use std::fs;
@@ -98,17 +99,18 @@ where
         input: false,
         errors: false,
     };
+    let links = links_of(&words);
     let system = System {
         host,
         alloc,
-        folders: &HostFolders::new(host),
+        folders: &HostFolders::by_links(host, links),
         progress: &Silent,
     };
     let status = run_program(
         &system,
         terminals,
         &words,
-        &mut HostStores::new(host),
+        &mut HostStores::by_links(host, links),
         &mut input,
         &mut output,
         &mut errors,

@@ -49,6 +49,7 @@ abbrev pub is_flag : List ℕ → Bool
 is_flag word =
     bytes_eq word (codes "--bundle") || bytes_eq word (codes "--quiet") || bytes_eq word (codes "--null")
     || bytes_eq word (codes "--all") || bytes_eq word (codes "--appends") || bytes_eq word (codes "--explain")
+    || bytes_eq word (codes "--no-links")
 
 -- the word after this option is its value: the option stands without `=`, and may have a value
 abbrev pub takes_next : List ℕ → Bool
@@ -148,8 +149,8 @@ command_name (command.Columns from of form path) = codes "columns"
 command_name (command.Audit from of form workers path) = codes "audit"
 command_name (command.Explain from request form workers path) = codes "explain"
 command_name (command.Changes from request form workers path) = codes "changes"
-command_name (command.Reachable from part path) = codes "reachable"
-command_name (command.Orphans place older path) = codes "orphans"
+command_name (command.Reachable from part form path) = codes "reachable"
+command_name (command.Orphans place older form path) = codes "orphans"
 command_name (command.Drill drill) = codes "drill"
 command_name (command.Text text) = codes "help"
 
@@ -231,8 +232,9 @@ module _ (words : List (List ℕ)) where
       Names (codes "explain") path × HasSource from × HasRequest request × HasFormat form × HasWorkers workers
   AsksFor (command.Changes from request form workers path) =
       Names (codes "changes") path × HasSource from × HasChanges request × HasFormat form × HasWorkers workers
-  AsksFor (command.Reachable from part path) = Names (codes "reachable") path × HasSource from × HasPart part
-  AsksFor (command.Orphans place older path) = Names (codes "orphans") path × HasSource (source.Folder place)
-      × (unsigned (option_in words (codes "--older-than-ms")) ≡ Some older)
+  AsksFor (command.Reachable from part form path) =
+      Names (codes "reachable") path × HasSource from × HasPart part × HasFormat form
+  AsksFor (command.Orphans place older form path) = Names (codes "orphans") path × HasSource (source.Folder place)
+      × (unsigned (option_in words (codes "--older-than-ms")) ≡ Some older) × HasFormat form
   AsksFor (command.Drill drill) = HasDrill drill
   AsksFor (command.Text text) = list_any asks_help words ≡ true

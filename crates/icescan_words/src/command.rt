@@ -60,11 +60,11 @@ pub enum Command {
     Explain(Source, Request, Format, usize, Text),
     /// The changes, in this form and by so many workers, that are asked of the table whose metadata is at this path.
     Changes(Source, ChangesRequest, Format, usize, Text),
-    /// This part of the files that the table reaches whose metadata is at this path.
-    Reachable(Source, Part, Text),
-    /// The files below this folder, older than so many milliseconds, that the table does not reach whose metadata is at
-    /// this path.
-    Orphans(Place, u64, Text),
+    /// This part, in this form, of the files that the table reaches whose metadata is at this path.
+    Reachable(Source, Part, Format, Text),
+    /// The files below this folder, older than so many milliseconds, in this form, that the table does not reach whose
+    /// metadata is at this path.
+    Orphans(Place, u64, Format, Text),
     /// A drill.
     Drill(Drill),
     /// A text of help, or the version.

@@ -217,8 +217,8 @@ fn commands<'a>(alloc: Global) -> Result<Vec<Command<'a>>, AllocError> {
     Ok(commands)
 }
 
-/// The program without its commands. The option `--explain`, which asks for a hint after the line of a refusal and for
-/// notes beside an answer, has no effect on what the words ask for.
+/// The program without its commands. The options `--explain`, which asks for a hint after the line of a refusal and for
+/// notes beside an answer, and `--no-links` have no effect on what the words ask for.
 fn bare_program<'a>(alloc: Global) -> Result<Command<'a>, AllocError> {
     let program = described(alloc, "icescan", ABOUT, PROGRAM_EXAMPLE)
         .no_binary_name(true)
@@ -229,7 +229,13 @@ fn bare_program<'a>(alloc: Global) -> Result<Command<'a>, AllocError> {
         "explain",
         "Say more of refusals and answers, as on a terminal",
     );
-    program.bin_name("icescan")?.arg(explain.global(true))
+    let no_links = flag(
+        alloc,
+        "no-links",
+        "Read and write through no link below a folder",
+    );
+    let program = program.bin_name("icescan")?.arg(explain.global(true))?;
+    program.arg(no_links.global(true))
 }
 
 /// The program with all its commands.

@@ -66,6 +66,7 @@ fn is_flag(word: &str) -> bool
         || word == "--all"
         || word == "--appends"
         || word == "--explain"
+        || word == "--no-links"
 }
 
 /// Whether the word after this option is its value.
@@ -501,12 +502,29 @@ fn has_part(words: &[String], part: &Part) -> bool
     }
 }
 
+/// Whether the words ask for this part, in this form.
+fn has_part_told(words: &[String], part: &Part, format: Format) -> bool
+    ensures { IsTrue result → HasPart (map string_bytes words.now) part.now
+        × HasFormat (map string_bytes words.now) format }
+{
+    has_part(words, part) && has_format(words, format)
+}
+
 /// Whether the words name this folder, and so many milliseconds.
 fn has_age(words: &[String], place: &Place, older_than_ms: u64) -> bool
     ensures { IsTrue result → HasSource (map string_bytes words.now) (source.Folder place.now)
         × (unsigned (option_in (map string_bytes words.now) (codes "--older-than-ms")) ≡ Some older_than_ms) }
 {
     is_place(words, place) && has_unsigned(words, "--older-than-ms", older_than_ms)
+}
+
+/// Whether the words name this folder, so many milliseconds, and this form.
+fn has_age_told(words: &[String], place: &Place, older_than_ms: u64, format: Format) -> bool
+    ensures { IsTrue result → HasSource (map string_bytes words.now) (source.Folder place.now)
+        × (unsigned (option_in (map string_bytes words.now) (codes "--older-than-ms")) ≡ Some older_than_ms)
+        × HasFormat (map string_bytes words.now) format }
+{
+    has_age(words, place, older_than_ms) && has_format(words, format)
 }
 
 /// Whether the words, of which the plain ones are given, ask for this command.
@@ -547,11 +565,13 @@ fn asks_with(words: &[String], plain: &[&str], command: &Command) -> bool
             is_about(words, plain, "changes", source, path.as_str())
                 && has_changes_told(words, request, *format, *workers)
         }
-        Command::Reachable(source, part, path) => {
-            is_about(words, plain, "reachable", source, path.as_str()) && has_part(words, part)
+        Command::Reachable(source, part, format, path) => {
+            is_about(words, plain, "reachable", source, path.as_str())
+                && has_part_told(words, part, *format)
         }
-        Command::Orphans(place, older_than_ms, path) => {
-            are_words(plain, &["orphans", path.as_str()]) && has_age(words, place, *older_than_ms)
+        Command::Orphans(place, older_than_ms, format, path) => {
+            are_words(plain, &["orphans", path.as_str()])
+                && has_age_told(words, place, *older_than_ms, *format)
         }
         Command::Drill(drill) => has_drill(words, plain, *drill),
         Command::Text(_) => any_asks_help(words),

@@ -120,7 +120,7 @@ findings:
   dangling-position-deletes, dangling-equality-deletes
                the delete file applies to no live data file, which costs time
                and is no fault
-  live-twice   another live entry has the file's path: `plan` refuses that
+  live-twice   another live entry has the file's path, or a spelling of it
                (these lines come after all others)
 Where no finding is `uncovered`, the plan under any filter is that of all
 manifests of the snapshot. Where none is a fault, each file may have, of each

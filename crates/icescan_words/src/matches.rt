@@ -285,13 +285,12 @@ fn plan_command(alloc: Global, matches: &ArgMatches<'_>) -> Result<Command, RunF
     ensures name { IfOk result (λ command. command_name command ≡ codes "plan") }
     ensures causes { IfErr result IsWordsFault }
 {
-    Ok(Command::Plan(
-        source_of(alloc, matches)?,
-        request_of(alloc, matches)?,
-        format_of(matches),
-        workers_of(alloc, matches)?,
-        required_text(alloc, matches, "metadata")?,
-    ))
+    let format = format_of(matches);
+    let workers = workers_of(alloc, matches)?;
+    let metadata = required_text(alloc, matches, "metadata")?;
+    let source = source_of(alloc, matches)?;
+    let request = request_of(alloc, matches)?;
+    Ok(Command::Plan(source, request, format, workers, metadata))
 }
 
 /// What is asked for of metadata.
@@ -326,12 +325,11 @@ fn columns_command(alloc: Global, matches: &ArgMatches<'_>) -> Result<Command, R
     ensures name { IfOk result (λ command. command_name command ≡ codes "columns") }
     ensures causes { IfErr result IsWordsFault }
 {
-    Ok(Command::Columns(
-        source_of(alloc, matches)?,
-        target_of(alloc, matches)?,
-        format_of(matches),
-        required_text(alloc, matches, "metadata")?,
-    ))
+    let format = format_of(matches);
+    let metadata = required_text(alloc, matches, "metadata")?;
+    let source = source_of(alloc, matches)?;
+    let target = target_of(alloc, matches)?;
+    Ok(Command::Columns(source, target, format, metadata))
 }
 
 /// The audit that is asked for.
@@ -339,13 +337,12 @@ fn audit_command(alloc: Global, matches: &ArgMatches<'_>) -> Result<Command, Run
     ensures name { IfOk result (λ command. command_name command ≡ codes "audit") }
     ensures causes { IfErr result IsWordsFault }
 {
-    Ok(Command::Audit(
-        source_of(alloc, matches)?,
-        target_of(alloc, matches)?,
-        format_of(matches),
-        workers_of(alloc, matches)?,
-        required_text(alloc, matches, "metadata")?,
-    ))
+    let format = format_of(matches);
+    let workers = workers_of(alloc, matches)?;
+    let metadata = required_text(alloc, matches, "metadata")?;
+    let source = source_of(alloc, matches)?;
+    let target = target_of(alloc, matches)?;
+    Ok(Command::Audit(source, target, format, workers, metadata))
 }
 
 /// The explanation that is asked for.
@@ -353,13 +350,12 @@ fn explain_command(alloc: Global, matches: &ArgMatches<'_>) -> Result<Command, R
     ensures name { IfOk result (λ command. command_name command ≡ codes "explain") }
     ensures causes { IfErr result IsWordsFault }
 {
-    Ok(Command::Explain(
-        source_of(alloc, matches)?,
-        request_of(alloc, matches)?,
-        format_of(matches),
-        workers_of(alloc, matches)?,
-        required_text(alloc, matches, "metadata")?,
-    ))
+    let format = format_of(matches);
+    let workers = workers_of(alloc, matches)?;
+    let metadata = required_text(alloc, matches, "metadata")?;
+    let source = source_of(alloc, matches)?;
+    let request = request_of(alloc, matches)?;
+    Ok(Command::Explain(source, request, format, workers, metadata))
 }
 
 /// The changes that are asked for.
@@ -367,13 +363,12 @@ fn changes_command(alloc: Global, matches: &ArgMatches<'_>) -> Result<Command, R
     ensures name { IfOk result (λ command. command_name command ≡ codes "changes") }
     ensures causes { IfErr result IsWordsFault }
 {
-    Ok(Command::Changes(
-        source_of(alloc, matches)?,
-        changes_of(alloc, matches)?,
-        format_of(matches),
-        workers_of(alloc, matches)?,
-        required_text(alloc, matches, "metadata")?,
-    ))
+    let format = format_of(matches);
+    let workers = workers_of(alloc, matches)?;
+    let metadata = required_text(alloc, matches, "metadata")?;
+    let source = source_of(alloc, matches)?;
+    let request = changes_of(alloc, matches)?;
+    Ok(Command::Changes(source, request, format, workers, metadata))
 }
 
 /// The part that is asked for.
@@ -401,6 +396,7 @@ fn orphans_command(alloc: Global, matches: &ArgMatches<'_>) -> Result<Command, R
     Ok(Command::Orphans(
         place,
         required_unsigned(alloc, matches, "older-than-ms")?,
+        format_of(matches),
         required_text(alloc, matches, "metadata")?,
     ))
 }
@@ -413,6 +409,7 @@ fn reachable_command(alloc: Global, matches: &ArgMatches<'_>) -> Result<Command,
     Ok(Command::Reachable(
         source_of(alloc, matches)?,
         part_of(alloc, matches)?,
+        format_of(matches),
         required_text(alloc, matches, "metadata")?,
     ))
 }

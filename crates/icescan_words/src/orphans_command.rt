@@ -2,7 +2,9 @@
 
 use crate::command_line::{described, with_parameters};
 use crate::parameter::Parameter;
-use crate::parameters::{METADATA, OLDER_THAN_MS, QUIET, SEARCHED_DIR, SEARCHED_PREFIX};
+use crate::parameters::{
+    LINES_FORMAT, METADATA, OLDER_THAN_MS, QUIET, SEARCHED_DIR, SEARCHED_PREFIX,
+};
 use clap::Command;
 use std::alloc::{AllocError, Global};
 
@@ -16,6 +18,7 @@ escaped, as in a plan. Links are not followed, nor are they files; a name that i
 not UTF-8 is passed over. Nothing is deleted.
 What the table needs is read as `reachable` reads it. Where anything is absent,
 can't be read or is compressed, nothing is printed.
+With --format json each line is an object of `kind` and `path`, as of `reachable`.
 A commit writes its files before its metadata: let N be longer than a commit may
 take, and METADATA the newest there is.
 
@@ -31,6 +34,7 @@ one line on standard error.";
 const ORPHANS: &[Parameter] = &[
     METADATA,
     OLDER_THAN_MS,
+    LINES_FORMAT,
     SEARCHED_DIR,
     SEARCHED_PREFIX,
     QUIET,

@@ -2,7 +2,7 @@
 
 use crate::command_line::{described, over_files};
 use crate::parameter::Parameter;
-use crate::parameters::{BUNDLE, DIR, METADATA, ONLY, PREFIX, QUIET, WITHOUT};
+use crate::parameters::{BUNDLE, DIR, LINES_FORMAT, METADATA, ONLY, PREFIX, QUIET, WITHOUT};
 use clap::Command;
 use std::alloc::{AllocError, Global};
 
@@ -17,6 +17,8 @@ live). A path is escaped, as in a plan.
 lets go. Statistics go with their snapshot; the metadata and its log stay.
 Every manifest list is read, and every manifest once. Where one is absent, can't
 be read or is compressed, nothing is printed.
+With --format json each line is an object: its `kind` is the first word of the
+line of text, and its `path` the path, not escaped but as JSON has it.
 
 Example, at the top of icescan's repository:
   icescan reachable --dir examples/events-java/table --prefix s3://warehouse/db/events \\
@@ -26,7 +28,16 @@ Exit status: 0 done, 1 the metadata, a manifest list or a manifest is refused, 2
 the command line or the bundle is, 3 a read or a write failed, 5 memory ran out.
 A refusal is one line on standard error.";
 
-const REACHABLE: &[Parameter] = &[METADATA, ONLY, WITHOUT, BUNDLE, DIR, PREFIX, QUIET];
+const REACHABLE: &[Parameter] = &[
+    METADATA,
+    ONLY,
+    WITHOUT,
+    LINES_FORMAT,
+    BUNDLE,
+    DIR,
+    PREFIX,
+    QUIET,
+];
 
 /// The command `reachable`.
 pub fn reachable_command<'a>(alloc: Global) -> Result<Command<'a>, AllocError> {

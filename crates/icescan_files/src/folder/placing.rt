@@ -240,6 +240,14 @@ impl<'a, H: std::rt::Files> CommitFolder<'a, H> {
     }
 }
 
+/// The path of the folder in which the file of a path is.
+fn above(path: &str) -> &str {
+    match path.rsplit_once('/') {
+        Some((above, _)) => above,
+        None => "",
+    }
+}
+
 impl<H: std::rt::Files> Store for CommitFolder<'_, H> {
     ghost use Rattle.std.specs.Prelude.{None};
 
@@ -252,10 +260,16 @@ impl<H: std::rt::Files> Store for CommitFolder<'_, H> {
     }
 
     fn create_new(&mut self, alloc: Global, path: &str, bytes: &[u8]) -> Result<(), StoreFault> {
+        match self.folder.refuses(alloc, above(path)) {
+            Ok(false) => {}
+            Ok(true) => return Err(StoreFault::Failed),
+            Err(_) => return Err(StoreFault::Memory),
+        }
         let Folder {
             host,
             folder,
             prefix,
+            links: _,
         } = &self.folder;
         DiskFolder::new(HostDisk::new(*host), folder, prefix, self.ids).create_new(
             alloc, path, bytes,

@@ -1,6 +1,7 @@
 use Rattle.std.proofs.Common.{[], ◌∷◌}
 use Rattle.std.proofs.lemmas.Result.{err_from_is_err_and}
 use Rattle.icescan_commands.specs.Runs.{columns_told}
+use Rattle.icescan_commands.proofs.Answering.{gives_shown}
 use Rattle.icescan_commands.proofs.Opened.{opened_ran, unopened_ran}
 use Rattle.icescan_commands.proofs.Reading.{columns_below}
 use Rattle.icescan_commands.proofs.arms.columns.Goals as goal
@@ -24,18 +25,20 @@ pub returns-clause-ran : goal.returns-clause-ran
 returns-clause-ran g c =
     let opened = c.in_ok-files.ensures.opened in
     let path = c.as_str-path.result.now in
-    let ran = c.write_columns in
+    let ran = c.columns_file in
     let told = opened_ran (g.S.Folders.below c.args.system.now.folders.now)
     (g.S.Folders.may_fail c.args.system.now.folders.now) opened.0 c.args.table.now.source.now _ _ opened.2
     (λ world. columns_told c.args.format world path c.args.target.now) (λ world. path ∷ [])
-    (g.W.Sink.may_fail c.args.output.now) ran.result _ _ (λ v told. ran.ensures.answers v told)
-    ran.ensures.nothing in
+    (g.W.Sink.may_fail c.args.output.now) ran.result (g.W.Sink.taken c.args.output.now)
+    (g.W.Sink.taken ran.new.output)
+    (λ v told. gives_shown _ _ _ ran.result _ _ (ran.ensures.written v told) (ran.ensures.refused v told)
+    (ran.ensures.front v told)) ran.ensures.nothing in
     (opened.0, opened.1, rw c.as_str-path.ensures at told)
 
 pub returns-clause-given : goal.returns-clause-given
 returns-clause-given g c =
     let path = c.as_str-path.result.now in
     let wrote = columns_below (g.S.Folders.gives c.args.system.now.folders.now) c.args.table.now.source.now _
-    c.in_ok-files.ensures.given c.args.format path c.args.target.now c.write_columns.result _ _
-    c.write_columns.ensures.given in
+    c.in_ok-files.ensures.given c.args.format path c.args.target.now c.columns_file.result _ _
+    c.columns_file.ensures.given in
     rw c.as_str-path.ensures at wrote

@@ -1,6 +1,7 @@
 use Rattle.std.proofs.lemmas.Result.{err_from_is_err_and}
 use Rattle.icescan_requests.specs.Plans.{reads_at}
 use Rattle.icescan_commands.specs.Runs.{explain_in}
+use Rattle.icescan_commands.proofs.Answering.{gives_explained}
 use Rattle.icescan_commands.proofs.Opened.{opened_ran, unopened_ran}
 use Rattle.icescan_commands.proofs.Reading.{explain_below}
 use Rattle.icescan_commands.proofs.arms.explain.Goals as goal
@@ -25,18 +26,20 @@ pub returns-clause-ran : goal.returns-clause-ran
 returns-clause-ran g c =
     let opened = c.in_ok-files.ensures.opened in
     let path = c.as_str-path.result.now in
-    let ran = c.write_explained in
+    let ran = c.explain_file in
     let told = opened_ran (g.S.Folders.below c.args.system.now.folders.now)
     (g.S.Folders.may_fail c.args.system.now.folders.now) opened.0 c.args.table.now.source.now _ _ opened.2
     (λ world. explain_in c.args.format world path c.args.request.now c.args.workers)
     (λ world. reads_at world path c.args.request.now) (g.W.Sink.may_fail c.args.output.now)
-    ran.result _ _ (λ v told. ran.ensures.answers v told) ran.ensures.refusal.nothing in
+    ran.result (g.W.Sink.taken c.args.output.now) (g.W.Sink.taken ran.new.output)
+    (λ v told. gives_explained c.args.format _ _ _ ran.result _ _ (ran.ensures.written v told)
+    (ran.ensures.refused v told) (ran.ensures.front v told)) ran.ensures.refusal.nothing in
     (opened.0, opened.1, rw c.as_str-path.ensures at told)
 
 pub returns-clause-given : goal.returns-clause-given
 returns-clause-given g c =
     let path = c.as_str-path.result.now in
     let wrote = explain_below (g.S.Folders.gives c.args.system.now.folders.now) c.args.table.now.source.now _
-    c.in_ok-files.ensures.given c.args.format path c.args.request.now c.args.workers c.write_explained.result _ _
-    c.write_explained.ensures.given in
+    c.in_ok-files.ensures.given c.args.format path c.args.request.now c.args.workers c.explain_file.result _ _
+    c.explain_file.ensures.given in
     rw c.as_str-path.ensures at wrote

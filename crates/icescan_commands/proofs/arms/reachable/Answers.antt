@@ -20,5 +20,6 @@ pub returns-clause-given : goal.returns-clause-given
 returns-clause-given g c =
     let path = c.as_str.result.now in
     let wrote = reachable_below (g.S.Folders.gives c.args.system.now.folders.now) c.args.table.now.source.now _
-    c.in_ok-files.ensures.given c.args.part.now path c.part_file.result _ _ c.part_file.ensures.given in
+    c.in_ok-files.ensures.given c.args.format c.args.part.now path c.part_file.result _ _
+    c.part_file.ensures.given in
     rw c.as_str.ensures at wrote

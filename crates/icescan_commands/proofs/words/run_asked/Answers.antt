@@ -125,7 +125,8 @@ pub returns-in-Reachable-clause-ran : goal.returns-in-Reachable-clause-ran
 returns-in-Reachable-clause-ran g c =
     let left = g.R.Read.remaining c.args.input.now in
     let asked : c.args.asked.now ≡
-    command.Reachable c.in-Reachable.source c.in-Reachable.part c.in-Reachable.path = search rules in
+    command.Reachable c.in-Reachable.source c.in-Reachable.part c.in-Reachable.format c.in-Reachable.path =
+    search rules in
     let none = c.no_findings-in-Reachable in
     rw asked (
       left_of left,
@@ -138,27 +139,31 @@ returns-in-Reachable-clause-ran g c =
 pub returns-in-Reachable-clause-stored : goal.returns-in-Reachable-clause-stored
 returns-in-Reachable-clause-stored g c =
     let asked : c.args.asked.now ≡
-    command.Reachable c.in-Reachable.source c.in-Reachable.part c.in-Reachable.path = search rules in
+    command.Reachable c.in-Reachable.source c.in-Reachable.part c.in-Reachable.format c.in-Reachable.path =
+    search rules in
     rw asked refl
 
 pub returns-in-Reachable-clause-given : goal.returns-in-Reachable-clause-given
 returns-in-Reachable-clause-given g c =
     let asked : c.args.asked.now ≡
-    command.Reachable c.in-Reachable.source c.in-Reachable.part c.in-Reachable.path = search rules in
+    command.Reachable c.in-Reachable.source c.in-Reachable.part c.in-Reachable.format c.in-Reachable.path =
+    search rules in
     rw asked (counted_as _ c.reachable.result c.no_findings-in-Reachable.result
     c.no_findings-in-Reachable.ensures.same c.no_findings-in-Reachable.ensures.none c.reachable.ensures.given)
 
 pub returns-in-Reachable-clause-stored_of_given : goal.returns-in-Reachable-clause-stored_of_given
 returns-in-Reachable-clause-stored_of_given g c =
     let asked : c.args.asked.now ≡
-    command.Reachable c.in-Reachable.source c.in-Reachable.part c.in-Reachable.path = search rules in
+    command.Reachable c.in-Reachable.source c.in-Reachable.part c.in-Reachable.format c.in-Reachable.path =
+    search rules in
     rw asked tt
 
 pub returns-in-Orphans-clause-ran : goal.returns-in-Orphans-clause-ran
 returns-in-Orphans-clause-ran g c =
     let left = g.R.Read.remaining c.args.input.now in
     let asked : c.args.asked.now ≡
-    command.Orphans c.in-Orphans.place c.in-Orphans.older_than_ms c.in-Orphans.path = search rules in
+    command.Orphans c.in-Orphans.place c.in-Orphans.older_than_ms c.in-Orphans.format c.in-Orphans.path =
+    search rules in
     let none = c.no_findings-in-Orphans in
     rw asked (
       left_of left,
@@ -171,20 +176,23 @@ returns-in-Orphans-clause-ran g c =
 pub returns-in-Orphans-clause-stored : goal.returns-in-Orphans-clause-stored
 returns-in-Orphans-clause-stored g c =
     let asked : c.args.asked.now ≡
-    command.Orphans c.in-Orphans.place c.in-Orphans.older_than_ms c.in-Orphans.path = search rules in
+    command.Orphans c.in-Orphans.place c.in-Orphans.older_than_ms c.in-Orphans.format c.in-Orphans.path =
+    search rules in
     rw asked refl
 
 pub returns-in-Orphans-clause-given : goal.returns-in-Orphans-clause-given
 returns-in-Orphans-clause-given g c =
     let asked : c.args.asked.now ≡
-    command.Orphans c.in-Orphans.place c.in-Orphans.older_than_ms c.in-Orphans.path = search rules in
+    command.Orphans c.in-Orphans.place c.in-Orphans.older_than_ms c.in-Orphans.format c.in-Orphans.path =
+    search rules in
     rw asked (counted_as _ c.orphans.result c.no_findings-in-Orphans.result
     c.no_findings-in-Orphans.ensures.same c.no_findings-in-Orphans.ensures.none c.orphans.ensures.given)
 
 pub returns-in-Orphans-clause-stored_of_given : goal.returns-in-Orphans-clause-stored_of_given
 returns-in-Orphans-clause-stored_of_given g c =
     let asked : c.args.asked.now ≡
-    command.Orphans c.in-Orphans.place c.in-Orphans.older_than_ms c.in-Orphans.path = search rules in
+    command.Orphans c.in-Orphans.place c.in-Orphans.older_than_ms c.in-Orphans.format c.in-Orphans.path =
+    search rules in
     rw asked tt
 
 pub returns-in-Drill-clause-drilled : goal.returns-in-Drill-clause-drilled
