@@ -16,104 +16,120 @@
 #define WORKERS 4
 #endif
 
-struct table {
-    const char *folder, *prefix;
-};
+static const char *folder, *prefix;
+static size_t wanted;
+static icescan_bytes *paths;
 
 struct worker {
-    const struct table *table;
     icescan_handle state;
-    size_t first, count;
-    icescan_bytes *paths;
+    size_t first;
     uint32_t status;
 };
 
-struct file {
-    uint8_t *bytes;
-    size_t len;
-};
-
-/* The bytes of the file at a path of the table, which are never at NULL. */
-static int read_file(const struct table *table, icescan_bytes path, struct file *file) {
-    size_t front = strlen(table->prefix), folder = strlen(table->folder), room = 4096;
-    if (path.len < front || memcmp(path.at, table->prefix, front) != 0)
-        return -1;
-    char *name = malloc(folder + path.len - front + 1);
-    if (!name)
-        return -1;
-    memcpy(name, table->folder, folder);
-    memcpy(name + folder, path.at + front, path.len - front);
-    name[folder + path.len - front] = 0;
-    FILE *in = fopen(name, "rb");
-    free(name);
-    if (!in)
-        return -1;
-    file->len = 0;
-    file->bytes = malloc(room);
-    while (file->bytes) {
-        size_t got = fread(file->bytes + file->len, 1, room - file->len, in);
-        file->len += got;
-        if (got == 0)
-            break;
-        if (file->len == room) {
-            uint8_t *more = realloc(file->bytes, room *= 2);
-            if (!more)
-                free(file->bytes);
-            file->bytes = more;
-        }
-    }
-    int failed = !file->bytes || ferror(in);
-    fclose(in);
-    return failed ? -1 : 0;
-}
-
-static void tell(icescan_handle *handle, uint32_t status) {
+/* Ends with the line of a refusal. */
+static void check(icescan_handle *handle, uint32_t status) {
     icescan_bytes line = ICESCAN_NO_BYTES;
+    if (status == ICESCAN_OK)
+        return;
     if (icescan_fault(handle, &line) == ICESCAN_OK)
         fwrite(line.at, 1, line.len, stderr);
-    else
-        fprintf(stderr, "engine: status %" PRIu32 "\n", status);
     exit((int)status);
+}
+
+/* The bytes of the file at a path of the table. */
+static uint8_t *read_file(icescan_bytes path, size_t *len) {
+    size_t front = strlen(prefix), room = strlen(folder) + path.len + 1;
+    char *name = malloc(room);
+    if (!name || path.len < front || memcmp(path.at, prefix, front) != 0)
+        exit(3);
+    snprintf(name, room, "%s%.*s", folder, (int)(path.len - front), (const char *)path.at + front);
+    FILE *in = fopen(name, "rb");
+    if (!in || fseek(in, 0, SEEK_END) != 0)
+        exit(3);
+    *len = (size_t)ftell(in);
+    rewind(in);
+    uint8_t *bytes = malloc(*len + 1);
+    if (!bytes || fread(bytes, 1, *len, in) != *len)
+        exit(3);
+    fclose(in);
+    free(name);
+    return bytes;
+}
+
+static icescan_bytes text(const char *text) {
+    icescan_bytes bytes = {(const uint8_t *)text, strlen(text)};
+    return bytes;
 }
 
 /* Takes every WORKERS-th manifest. */
 static void *work(void *at) {
     struct worker *worker = at;
-    for (size_t i = worker->first; i < worker->count && worker->status == ICESCAN_OK; i += WORKERS) {
-        struct file file;
-        if (read_file(worker->table, worker->paths[i], &file) != 0) {
-            worker->status = 3;
-            break;
-        }
-        worker->status = icescan_state_take(&worker->state, i, file.bytes, file.len);
-        free(file.bytes);
+    for (size_t i = worker->first; i < wanted && worker->status == ICESCAN_OK; i += WORKERS) {
+        size_t len;
+        uint8_t *bytes = read_file(paths[i], &len);
+        worker->status = icescan_state_take(&worker->state, i, bytes, len);
+        free(bytes);
     }
     return NULL;
+}
+
+static void start(icescan_handle *scan, icescan_bytes metadata, icescan_bytes filter) {
+    icescan_bytes list = ICESCAN_NO_BYTES;
+    size_t len;
+    uint8_t *bytes = read_file(metadata, &len);
+    check(scan, icescan_scan_new(scan, bytes, len, NULL, 0, filter.at, filter.len));
+    free(bytes);
+    check(scan, icescan_scan_list(scan, &list));
+    bytes = read_file(list, &len);
+    check(scan, icescan_scan_start(scan, bytes, len));
+    free(bytes);
+    check(scan, icescan_scan_count(scan, &wanted));
+    if (!(paths = calloc(wanted + 1, sizeof *paths)))
+        exit(ICESCAN_MEMORY);
+    for (size_t i = 0; i < wanted; i++)
+        check(scan, icescan_scan_wanted(scan, i, &paths[i]));
+}
+
+/* Has each worker take its manifests, in a thread of its own, and brings what they took together in the first. */
+static void take_all(icescan_handle *scan, struct worker *workers) {
+    pthread_t threads[WORKERS];
+    for (size_t w = 0; w < WORKERS; w++) {
+        struct worker worker = {ICESCAN_NOTHING, w, ICESCAN_OK};
+        workers[w] = worker;
+        check(scan, icescan_state_new(scan, &workers[w].state));
+    }
+    for (size_t w = 0; w < WORKERS; w++)
+        if (pthread_create(&threads[w], NULL, work, &workers[w]) != 0)
+            exit(3);
+    for (size_t w = 0; w < WORKERS; w++)
+        pthread_join(threads[w], NULL);
+    for (size_t w = 0; w < WORKERS; w++) {
+        check(&workers[w].state, workers[w].status);
+        if (w > 0)
+            check(&workers[0].state, icescan_state_absorb(&workers[0].state, &workers[w].state));
+    }
 }
 
 /* A path as the program writes it: a space, a control or a backslash by its digits. */
 static void put_path(const char *name, icescan_bytes path) {
     fputs(name, stdout);
     for (size_t i = 0; i < path.len; i++)
-        if (path.at[i] <= ' ' || path.at[i] == 127 || path.at[i] == '\\')
-            printf("\\x%02x", path.at[i]);
-        else
-            putchar(path.at[i]);
+        printf(path.at[i] <= ' ' || path.at[i] == 127 || path.at[i] == '\\' ? "\\x%02x" : "%c", path.at[i]);
 }
 
-static size_t put_line(icescan_handle *plan, size_t i) {
+static size_t put_file(icescan_handle *plan, size_t i) {
     icescan_file file = ICESCAN_NO_FILE, delete = ICESCAN_NO_FILE;
-    icescan_plan_file(plan, i, &file);
+    check(plan, icescan_plan_file(plan, i, &file, sizeof file));
     put_path("data ", file.path);
     printf(" seq %" PRIu64 " spec %" PRId32 " rows %" PRId64 " size %" PRId64 "\n", file.sequence_number, file.spec_id,
            file.record_count, file.file_size);
     for (size_t j = 0; j < file.positions; j++) {
-        icescan_plan_position(plan, i, j, &delete);
+        check(plan, icescan_plan_position(plan, i, j, &delete, sizeof delete));
         put_path("  pos ", delete.path);
         printf(" seq %" PRIu64 "\n", delete.sequence_number);
     }
     for (size_t j = 0; j < file.equalities; j++) {
-        icescan_plan_equality(plan, i, j, &delete);
+        check(plan, icescan_plan_equality(plan, i, j, &delete, sizeof delete));
         put_path("  eq ", delete.path);
         printf(" seq %" PRIu64 " ids ", delete.sequence_number);
         for (size_t k = 0; k < delete.equality_ids.len; k++)
@@ -123,83 +139,22 @@ static size_t put_line(icescan_handle *plan, size_t i) {
     return file.positions + file.equalities;
 }
 
-static void start(const struct table *table, const char *metadata, const char *filter, icescan_handle *scan) {
-    icescan_bytes path = {(const uint8_t *)metadata, strlen(metadata)};
-    struct file file;
-    uint32_t status;
-    if (read_file(table, path, &file) != 0)
-        tell(scan, 3);
-    status = icescan_scan_new(scan, file.bytes, file.len, (const uint8_t *)"", 0, (const uint8_t *)filter,
-                              strlen(filter));
-    free(file.bytes);
-    if (status == ICESCAN_OK)
-        status = icescan_scan_list(scan, &path);
-    if (status != ICESCAN_OK)
-        tell(scan, status);
-    if (read_file(table, path, &file) != 0)
-        tell(scan, 3);
-    status = icescan_scan_start(scan, file.bytes, file.len);
-    free(file.bytes);
-    if (status != ICESCAN_OK)
-        tell(scan, status);
-}
-
-/* Has each worker take its manifests, in a thread of its own, and brings what they took together in the first. */
-static void take_all(icescan_handle *scan, const struct table *table, size_t wanted, icescan_bytes *paths,
-                     struct worker *workers) {
-    pthread_t threads[WORKERS];
-    uint32_t status;
-    for (size_t w = 0; w < WORKERS; w++) {
-        struct worker worker = {table, ICESCAN_NOTHING, w, wanted, paths, ICESCAN_OK};
-        workers[w] = worker;
-        if ((status = icescan_state_new(scan, &workers[w].state)) != ICESCAN_OK)
-            tell(scan, status);
-    }
-    for (size_t w = 0; w < WORKERS; w++)
-        if (pthread_create(&threads[w], NULL, work, &workers[w]) != 0)
-            tell(scan, 3);
-    for (size_t w = 0; w < WORKERS; w++)
-        pthread_join(threads[w], NULL);
-    for (size_t w = 0; w < WORKERS; w++) {
-        status = workers[w].status;
-        if (status == ICESCAN_OK && w > 0)
-            status = icescan_state_absorb(&workers[0].state, &workers[w].state);
-        if (status != ICESCAN_OK)
-            tell(&workers[w].state, status);
-    }
-}
-
-static void put_plan(icescan_handle *plan) {
-    size_t files = 0, deletes = 0;
-    icescan_plan_count(plan, &files);
-    for (size_t i = 0; i < files; i++)
-        deletes += put_line(plan, i);
-    printf("files %zu deletes %zu\n", files, deletes);
-}
-
 int main(int count, char **words) {
+    icescan_handle scan = ICESCAN_NOTHING;
+    struct worker workers[WORKERS];
+    size_t files = 0, deletes = 0;
     if (count < 4) {
         fputs("usage: engine FOLDER PREFIX METADATA [FILTER]\n", stderr);
         return 2;
     }
-    struct table table = {words[1], words[2]};
-    icescan_handle scan = ICESCAN_NOTHING;
-    struct worker workers[WORKERS];
-    size_t wanted = 0;
-    uint32_t status;
-    start(&table, words[3], count > 4 ? words[4] : "", &scan);
-    if ((status = icescan_scan_count(&scan, &wanted)) != ICESCAN_OK)
-        tell(&scan, status);
-    icescan_bytes *paths = calloc(wanted + 1, sizeof *paths);
-    if (!paths)
-        tell(&scan, ICESCAN_MEMORY);
-    for (size_t i = 0; i < wanted; i++)
-        icescan_scan_wanted(&scan, i, &paths[i]);
-    take_all(&scan, &table, wanted, paths, workers);
-    icescan_handle *plan = &workers[0].state;
-    if ((status = icescan_finish(plan)) != ICESCAN_OK)
-        tell(plan, status);
-    put_plan(plan);
+    folder = words[1], prefix = words[2];
+    start(&scan, text(words[3]), text(count > 4 ? words[4] : ""));
+    take_all(&scan, workers);
+    check(&workers[0].state, icescan_finish(&workers[0].state));
+    check(&workers[0].state, icescan_plan_count(&workers[0].state, &files));
+    for (size_t i = 0; i < files; i++)
+        deletes += put_file(&workers[0].state, i);
+    printf("files %zu deletes %zu\n", files, deletes);
     for (size_t w = 0; w < WORKERS; w++)
         icescan_free(&workers[w].state);
     icescan_free(&scan);

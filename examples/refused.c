@@ -63,12 +63,54 @@ static void nothing(const char *what, icescan_handle *none) {
     want(what, icescan_state_absorb(none, &other), ICESCAN_KIND);
     want(what, icescan_finish(none), ICESCAN_KIND);
     want(what, icescan_plan_count(none, &count), ICESCAN_KIND);
-    want(what, icescan_plan_file(none, 0, &file), ICESCAN_KIND);
-    want(what, icescan_plan_position(none, 0, 0, &file), ICESCAN_KIND);
-    want(what, icescan_plan_equality(none, 0, 0, &file), ICESCAN_KIND);
+    want(what, icescan_plan_file(none, 0, &file, sizeof file), ICESCAN_KIND);
+    want(what, icescan_plan_position(none, 0, 0, &file, sizeof file), ICESCAN_KIND);
+    want(what, icescan_plan_equality(none, 0, 0, &file, sizeof file), ICESCAN_KIND);
     want(what, icescan_fault(none, &bytes), ICESCAN_KIND);
     if (other.held || bytes.len != 6 || count != 77 || file.record_count != 77)
         want(what, 1, 0);
+}
+
+/* NULL in place of a handle, of bytes or of what is written to: each call refuses it. */
+static void null(icescan_handle *scan) {
+    icescan_bytes bytes = ICESCAN_NO_BYTES;
+    icescan_file file = ICESCAN_NO_FILE;
+    size_t count = 0;
+    want("null scan", icescan_scan_new(NULL, text("{"), 1, NULL, 0, NULL, 0), ICESCAN_NULL);
+    want("null metadata", icescan_scan_new(scan, NULL, 5, NULL, 0, NULL, 0), ICESCAN_NULL);
+    want("null name", icescan_scan_new(scan, text("{"), 1, NULL, 1, NULL, 0), ICESCAN_NULL);
+    want("null filter", icescan_scan_new(scan, text("{"), 1, NULL, 0, NULL, 1), ICESCAN_NULL);
+    want("null scan", icescan_scan_new_at(NULL, text("{"), 1, 5, NULL, 0), ICESCAN_NULL);
+    want("null metadata", icescan_scan_new_at(scan, NULL, 5, 5, NULL, 0), ICESCAN_NULL);
+    want("null filter", icescan_scan_new_at(scan, text("{"), 1, 5, NULL, 1), ICESCAN_NULL);
+    want("null scan", icescan_scan_list(NULL, &bytes), ICESCAN_NULL);
+    want("null path", icescan_scan_list(scan, NULL), ICESCAN_NULL);
+    want("null scan", icescan_scan_start(NULL, text("x"), 1), ICESCAN_NULL);
+    want("null list", icescan_scan_start(scan, NULL, 1), ICESCAN_NULL);
+    want("null scan", icescan_scan_count(NULL, &count), ICESCAN_NULL);
+    want("null count", icescan_scan_count(scan, NULL), ICESCAN_NULL);
+    want("null scan", icescan_scan_wanted(NULL, 0, &bytes), ICESCAN_NULL);
+    want("null path", icescan_scan_wanted(scan, 0, NULL), ICESCAN_NULL);
+    want("null scan", icescan_state_new(NULL, scan), ICESCAN_NULL);
+    want("null state", icescan_state_new(scan, NULL), ICESCAN_NULL);
+    want("null state", icescan_state_take(NULL, 0, text("x"), 1), ICESCAN_NULL);
+    want("null manifest", icescan_state_take(scan, 0, NULL, 1), ICESCAN_NULL);
+    want("null state", icescan_state_merge(NULL, scan), ICESCAN_NULL);
+    want("null other", icescan_state_merge(scan, NULL), ICESCAN_NULL);
+    want("null state", icescan_state_absorb(NULL, scan), ICESCAN_NULL);
+    want("null other", icescan_state_absorb(scan, NULL), ICESCAN_NULL);
+    want("null state", icescan_finish(NULL), ICESCAN_NULL);
+    want("null plan", icescan_plan_count(NULL, &count), ICESCAN_NULL);
+    want("null count", icescan_plan_count(scan, NULL), ICESCAN_NULL);
+    want("null plan", icescan_plan_file(NULL, 0, &file, sizeof file), ICESCAN_NULL);
+    want("null file", icescan_plan_file(scan, 0, NULL, sizeof file), ICESCAN_NULL);
+    want("null plan", icescan_plan_position(NULL, 0, 0, &file, sizeof file), ICESCAN_NULL);
+    want("null file", icescan_plan_position(scan, 0, 0, NULL, sizeof file), ICESCAN_NULL);
+    want("null plan", icescan_plan_equality(NULL, 0, 0, &file, sizeof file), ICESCAN_NULL);
+    want("null file", icescan_plan_equality(scan, 0, 0, NULL, sizeof file), ICESCAN_NULL);
+    want("null handle", icescan_fault(NULL, &bytes), ICESCAN_NULL);
+    want("null line", icescan_fault(scan, NULL), ICESCAN_NULL);
+    icescan_free(NULL);
 }
 
 int main(int count, char **words) {
@@ -84,10 +126,10 @@ int main(int count, char **words) {
     const char *filters[] = {"", "true", "ts < 0"};
 
     nothing("no handle", &scan);
+    null(&scan);
     icescan_free(&scan);
 
     /* What is asked. */
-    want("null metadata", icescan_scan_new(&scan, NULL, 5, NULL, 0, NULL, 0), ICESCAN_NULL);
     want("no metadata", icescan_scan_new(&scan, NULL, 0, NULL, 0, NULL, 0), ICESCAN_TABLE);
     want_line("no metadata", &scan, "icescan: M");
     want("no JSON", icescan_scan_new(&scan, text("{]"), 2, NULL, 0, NULL, 0), ICESCAN_TABLE);
@@ -148,7 +190,7 @@ int main(int count, char **words) {
         want("no manifest", icescan_state_take(&other, i, text("Obj"), 3), ICESCAN_OK);
     want("bad manifests", icescan_finish(&other), ICESCAN_TABLE);
     want_line("bad manifests", &other, "icescan: Z2 Bad");
-    want("a fault is no plan", icescan_plan_file(&other, 0, &file), ICESCAN_KIND);
+    want("a fault is no plan", icescan_plan_file(&other, 0, &file, sizeof file), ICESCAN_KIND);
 
     icescan_free(&other);
     icescan_free(&other);

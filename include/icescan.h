@@ -1,5 +1,8 @@
 /* icescan for C: which files a scan of an Apache Iceberg table (format version 2) has to read.
  *
+ * Rows that are read must still be filtered: a plan leaves out files, and a file that it has may hold rows that do not
+ * meet the filter.
+ *
  * The caller reads files and has threads; the library is handed bytes and gives the plan:
  *
  *     icescan_handle scan = ICESCAN_NOTHING, state = ICESCAN_NOTHING;
@@ -14,7 +17,7 @@
  *     icescan_finish(&state);                          the state is the plan now
  *     icescan_plan_count(&state, &count);
  *     for each i below count:
- *         icescan_plan_file(&state, i, &file);
+ *         icescan_plan_file(&state, i, &file, sizeof file);
  *     icescan_free(&state);
  *     icescan_free(&scan);
  *
@@ -51,14 +54,13 @@
  * Bytes that are handed in are read during the call and never after it. The library can't tell whether they are there.
  *
  * What is written to, a count or a file, has some value before, as 0 or ICESCAN_NO_FILE. A call that is refused leaves
- * it as it was.
+ * it as it was. icescan_file may grow at its end in later versions: the caller says how large it is, and fields that the
+ * library does not know stay as they were.
  *
- * A handle that holds nothing, or was freed, or holds another kind of thing; a number past the end; bytes at NULL; a
- * text that is no UTF-8; metadata, a list or a manifest that is none: each is answered by a status. Left to the caller
- * is that pointers to handles and to what is written are not NULL, and that no call is made from a signal's handler, or
- * in the forked child of a process with threads. Bytes at NULL are found by inline functions at the end of this file:
- * whoever calls the library without it, as by dlsym, hands in bytes that are not at NULL, also where there are 0.
- * Memory is taken by malloc, realloc and free.
+ * A handle that holds nothing, or was freed, or holds another kind of thing; a number past the end; NULL in place of a
+ * handle, of bytes or of what is written to; a text that is no UTF-8; metadata, a list or a manifest that is none: each
+ * is answered by a status. Left to the caller is that no call is made from a signal's handler, or in the forked child
+ * of a process with threads. Memory is taken by malloc, realloc and free.
  */
 #ifndef ICESCAN_H
 #define ICESCAN_H
@@ -69,6 +71,13 @@
 #ifdef __cplusplus
 extern "C" {
 #endif
+
+/* The version of this header, as text and as a number: 10,000 times its first part, 100 times its second, and its
+ * third. icescan_version answers the number of the library. */
+#define ICESCAN_VERSION_TEXT "0.1.0"
+#define ICESCAN_VERSION 100
+
+uint32_t icescan_version(void);
 
 /* How a call ended. A call on a handle of another kind answers ICESCAN_KIND; what else it may answer stands at it. With
  * the numbers 3 and 4 the program `icescan` ends where a file can't be read, or is there already: no call does. */
@@ -81,7 +90,7 @@ enum {
     ICESCAN_PAST_END = 7,   /* there is no such number */
     ICESCAN_ENCODING = 8,   /* a name or a filter is no UTF-8 */
     ICESCAN_OTHER_SCAN = 9, /* the states are of two scans */
-    ICESCAN_NULL = 10       /* there are to be bytes at NULL */
+    ICESCAN_NULL = 10       /* NULL in place of a handle, of bytes, or of what is written to */
 };
 
 /* A scan, a state, a plan, or the line of a fault; nothing where `held` is NULL. */
@@ -170,57 +179,19 @@ uint32_t icescan_finish(icescan_handle *state);
 
 /* Tells how many data files the plan has, and lends one of them, in the order of their paths, counted from 0; and of
  * the data file i the delete file j of those that apply to it, in the order of their paths: ICESCAN_PAST_END from those
- * counts on. How many position and equality delete files apply to a data file stands in its icescan_file. */
+ * counts on. How many position and equality delete files apply to a data file stands in its icescan_file. `size` is
+ * that of the caller's icescan_file: sizeof *file. */
 uint32_t icescan_plan_count(icescan_handle *plan, size_t *count);
-uint32_t icescan_plan_file(icescan_handle *plan, size_t i, icescan_file *file);
-uint32_t icescan_plan_position(icescan_handle *plan, size_t i, size_t j, icescan_file *file);
-uint32_t icescan_plan_equality(icescan_handle *plan, size_t i, size_t j, icescan_file *file);
+uint32_t icescan_plan_file(icescan_handle *plan, size_t i, icescan_file *file, size_t size);
+uint32_t icescan_plan_position(icescan_handle *plan, size_t i, size_t j, icescan_file *file, size_t size);
+uint32_t icescan_plan_equality(icescan_handle *plan, size_t i, size_t j, icescan_file *file, size_t size);
 
 /* Lends the line that a handle holds after a call on it that answered ICESCAN_TABLE or ICESCAN_ASKED, with the line
  * feed at its end; no bytes where memory ran out for it. It is the line that the program `icescan` writes then. */
 uint32_t icescan_fault(icescan_handle *handle, icescan_bytes *line);
 
-/* Lets go what a handle holds. A handle that holds nothing, as one that was freed, may be freed again. */
+/* Lets go what a handle holds. A handle that holds nothing, as one that was freed, may be freed again; so may NULL. */
 void icescan_free(icescan_handle *handle);
-
-/* The library takes bytes to be there. These ask before, and NULL with a length of 0 is no bytes. */
-static inline const uint8_t *icescan_some(const uint8_t *bytes) {
-    return bytes ? bytes : (const uint8_t *)"";
-}
-
-static inline uint32_t icescan_scan_new_asked(icescan_handle *scan, const uint8_t *metadata, size_t metadata_len,
-                                              const uint8_t *name, size_t name_len, const uint8_t *filter,
-                                              size_t filter_len) {
-    if ((!metadata && metadata_len) || (!name && name_len) || (!filter && filter_len))
-        return ICESCAN_NULL;
-    return icescan_scan_new(scan, icescan_some(metadata), metadata_len, icescan_some(name), name_len,
-                            icescan_some(filter), filter_len);
-}
-
-static inline uint32_t icescan_scan_new_at_asked(icescan_handle *scan, const uint8_t *metadata, size_t metadata_len,
-                                                 int64_t snapshot, const uint8_t *filter, size_t filter_len) {
-    if ((!metadata && metadata_len) || (!filter && filter_len))
-        return ICESCAN_NULL;
-    return icescan_scan_new_at(scan, icescan_some(metadata), metadata_len, snapshot, icescan_some(filter), filter_len);
-}
-
-static inline uint32_t icescan_scan_start_asked(icescan_handle *scan, const uint8_t *list, size_t list_len) {
-    if (!list && list_len)
-        return ICESCAN_NULL;
-    return icescan_scan_start(scan, icescan_some(list), list_len);
-}
-
-static inline uint32_t icescan_state_take_asked(icescan_handle *state, size_t i, const uint8_t *manifest,
-                                                size_t manifest_len) {
-    if (!manifest && manifest_len)
-        return ICESCAN_NULL;
-    return icescan_state_take(state, i, icescan_some(manifest), manifest_len);
-}
-
-#define icescan_scan_new icescan_scan_new_asked
-#define icescan_scan_new_at icescan_scan_new_at_asked
-#define icescan_scan_start icescan_scan_start_asked
-#define icescan_state_take icescan_state_take_asked
 
 #ifdef __cplusplus
 }

@@ -1,12 +1,13 @@
 #!/usr/bin/env python3
-"""c_header.py FILE: writes a program in C that compiles only where `include/icescan.h` declares what the library exports.
+"""c_header.py FILE: writes a program in C that compiles only where `c/proved.h` declares what the crate exports.
 
 It is made from the sources of `crates/icescan_c` and `crates/icescan_c_lent`, and declares each exported function once
 more, with the types that its parameters have there: a compiler refuses two declarations that differ. Of each struct
 that crosses to C it asserts the size, of each field its type and its place, and of each status of the library's own its
-number. It uses every function that the header declares, so that the linker refuses one that the library lacks, and ends
-with status 0. The names of functions and of their parameters are compared here, by their order: the status is 1 where
-they differ.
+number. It uses every function that `include/icescan.h` declares, so that the linker refuses one that the library lacks,
+and ends with status 0 where the library has the header's version. Compared here are the names of functions and of their
+parameters, by their order, in the crate, in `c/proved.h` and in `include/icescan.h`, and the version that the header,
+the program and the package for Python have: the status is 1 where they differ.
 
 `tools/trials/try_c` compiles, links and runs it.
 """
@@ -18,9 +19,20 @@ import sys
 TOP = os.path.dirname(os.path.dirname(os.path.dirname(os.path.abspath(__file__))))
 SOURCES = sorted(glob.glob(f"{TOP}/crates/icescan_c/src/*.rt") + glob.glob(f"{TOP}/crates/icescan_c_lent/src/*.rt"))
 ENDINGS = f"{TOP}/crates/icescan_c_requests/src/endings.rt"
-HEADER = f"{TOP}/include/icescan.h"
+HEADER, PROVED = f"{TOP}/include/icescan.h", f"{TOP}/c/proved.h"
+# Where a version stands, as text.
+VERSIONS = {
+    HEADER: r'^#define ICESCAN_VERSION_TEXT "(.*)"$',
+    f"{TOP}/crates/icescan_words/src/command_line.rt": r'\.version\("(.*)"\)',
+    f"{TOP}/python/icescan/__init__.py": r'^__version__ = "(.*)"$',
+}
 
-STRUCTS = {"Handle": "icescan_handle", "Bytes": "icescan_bytes", "Ids": "icescan_ids", "File": "icescan_file"}
+STRUCTS = {
+    "Handle": "icescan_handle",
+    "Bytes": "icescan_bytes",
+    "Ids": "icescan_ids",
+    "File": "icescan_file",
+}
 NUMBERS = {"usize": "size_t", "u32": "uint32_t", "u64": "uint64_t", "i32": "int32_t", "i64": "int64_t"}
 POINTERS = {"*const u8": "const uint8_t *", "*const i32": "const int32_t *"}
 # What a handle holds is nobody's but the library's: the header gives its pointer no type.
@@ -30,7 +42,7 @@ EXPORT = re.compile(r'#\[unsafe\(no_mangle\)\]\s*pub extern "C" fn (\w+)\((.*?)\
 STRUCT = re.compile(r"#\[repr\(C\)\]\s*(?:#\[derive\([^)]*\)\]\s*)?pub struct (\w+) \{(.*?)\n\}", re.S)
 FIELD = re.compile(r"^\s*(?:pub )?(\w+): ([^,{}]+),$", re.M)
 STATUS = re.compile(r"Err\(Refusal::(\w+)\) => (\d+),")
-DECLARED = re.compile(r"^(?:uint32_t|void) (icescan_\w+)\(([^)]*)\);", re.M)
+DECLARED = re.compile(r"^(?:uint32_t|void) (?:proved_)?(icescan_\w+)\(([^)]*)\);", re.M)
 
 
 def words_of(name, kind):
@@ -57,13 +69,19 @@ def type_of(name, field, kind):
 
 def declared_again(name, text, result):
     words = ", ".join(kind + parameter for kind, parameter in parameters_of(text))
-    return f"{NUMBERS[result] if result else 'void'} {name}({words});"
+    return f"{NUMBERS[result] if result else 'void'} proved_{name}({words or 'void'});"
 
 
-def names_of(exported, declared):
-    """Functions with the names of their parameters, as the library has them, and as the header has them."""
-    yield {name: [parameter for _, parameter in parameters_of(text)] for name, text, _ in exported}
-    yield {name: re.findall(r"(\w+)(?:,|$)", " ".join(text.split())) for name, text in declared}
+def exported_names(source):
+    """The functions that the crate exports, with the names of their parameters."""
+    return {name: [parameter for _, parameter in parameters_of(text)] for name, text, _ in EXPORT.findall(source)}
+
+
+def declared_names(header, left_out=()):
+    """Those that a header declares; what may grow is handed in with its size, which no proved function takes."""
+    for name, text in DECLARED.findall(header):
+        names = re.findall(r"(\w+)(?:,|$)", " ".join(text.split()))
+        yield name, [it for it in names if it not in ("void", *left_out)]
 
 
 def twin_of(name, fields):
@@ -77,28 +95,43 @@ def twin_of(name, fields):
         yield f'_Static_assert(_Generic((({c} *)0)->{field}, {kind}: 1, default: 0), "type of {c}.{field}");'
 
 
-def statuses():
-    with open(ENDINGS) as it:
-        for name, number in STATUS.findall(it.read()):
-            c = "ICESCAN" + re.sub("([A-Z])", r"_\1", name).upper()
-            yield f'_Static_assert({c} == {number}, "number of {c}");'
+def numbers():
+    """The numbers of statuses, by their names in C."""
+    for name, number in STATUS.findall(open(ENDINGS).read()):
+        yield re.sub("([A-Z])", r"_\1", name).upper()[1:], number
+
+
+def compared(source, header, proved):
+    """Ends where the names of functions, or versions, differ."""
+    has, passes = exported_names(source), dict(declared_names(proved))
+    says = dict(declared_names(header, ("size",)))
+    # No proved function is needed for it.
+    del says["icescan_version"]
+    if not has == says == passes:
+        raise SystemExit(f"c_header.py: the library has {has}, icescan.h {says}, and proved.h {passes}")
+    versions = {path: re.findall(pattern, open(path).read(), re.M) for path, pattern in VERSIONS.items()}
+    (text,) = versions[HEADER]
+    first, second, third = map(int, text.split("."))
+    number = re.search(r"^#define ICESCAN_VERSION (\d+)$", header, re.M).group(1)
+    if any(it != [text] for it in versions.values()) or int(number) != 10000 * first + 100 * second + third:
+        raise SystemExit(f"c_header.py: versions differ: {versions}, ICESCAN_VERSION {number}")
 
 
 def program():
     source, header = "\n".join(open(path).read() for path in SOURCES), open(HEADER).read()
-    exported, declared, structs = EXPORT.findall(source), DECLARED.findall(header), STRUCT.findall(source)
-    has, says = names_of(exported, declared)
-    if has != says or sorted(it[0] for it in structs) != sorted(STRUCTS):
-        raise SystemExit(f"c_header.py: the library has {has}, the header {says}; structs: {[it[0] for it in structs]}")
-    lines = ['#include "icescan.h"']
-    lines += [f"#undef {name}" for name in re.findall(r"^#define (icescan_\w+) icescan_\w+_asked$", header, re.M)]
+    structs = STRUCT.findall(source)
+    compared(source, header, open(PROVED).read())
+    if sorted(it[0] for it in structs) != sorted(STRUCTS):
+        raise SystemExit(f"c_header.py: the library has the structs {[it[0] for it in structs]}")
+    lines = ['#include "proved.h"']
     for name, fields in structs:
         lines += twin_of(name, FIELD.findall(fields))
-    lines += [*statuses(), *(declared_again(*it) for it in exported)]
+    lines += [f'_Static_assert(ICESCAN_{name} == {number}, "number of {name}");' for name, number in numbers()]
+    lines += [declared_again(*it) for it in EXPORT.findall(source)]
     lines += ["typedef void (*call)(void);", "int main(void) {"]
-    lines += [f"    call calls[] = {{{', '.join(f'(call){name}' for name, _ in declared)}}};"]
+    lines += [f"    call calls[] = {{{', '.join(f'(call){name}' for name, _ in DECLARED.findall(header))}}};"]
     lines += ["    for (size_t i = 0; i < sizeof calls / sizeof *calls; i++)", "        if (!calls[i])"]
-    return "\n".join([*lines, "            return 1;", "    return 0;", "}", ""])
+    return "\n".join([*lines, "            return 1;", "    return icescan_version() != ICESCAN_VERSION;", "}", ""])
 
 
 if __name__ == "__main__":

@@ -9,59 +9,48 @@ is let go or drawn again, or by icescan_state_absorb, which empties it; what nob
 every fourth run some of it is left out. The plan has to be that of one state that took each manifest once, and where
 some are missing the refusal has to name the one with the least path.
 """
-import importlib.util
 import os
 import random
 import sys
 import threading
-from ctypes import byref, c_size_t
+from ctypes import byref
 
-HERE = os.path.dirname(os.path.abspath(__file__))
-spec = importlib.util.spec_from_file_location("engine", os.path.join(HERE, "..", "..", "examples", "engine.py"))
-engine = importlib.util.module_from_spec(spec)
-spec.loader.exec_module(engine)
+sys.path.insert(0, os.path.join(os.path.dirname(os.path.abspath(__file__)), "..", "..", "python"))
+from icescan import Error, Folder, _library, _plan, _text  # noqa: E402
 
 
 class Scan:
     """A scan that is started, and the bytes of the manifests that it wants."""
 
     def __init__(self, library, read, metadata, text):
-        self.library, self.held = library, engine.started(library, read, metadata, text, b"")
-        path, count = engine.Bytes(), c_size_t()
-        library.call("scan_count", self.held, byref(count))
-        self.paths = []
-        for i in range(count.value):
-            library.call("scan_wanted", self.held, c_size_t(i), byref(path))
-            self.paths.append(path.read())
-        self.manifests = [read(name) for name in self.paths]
+        self.library, self.held = library, _plan.started(library, metadata, read, text, None, None)
+        self.paths = [self.held.path("scan_wanted", i) for i in range(self.held.count("scan_count"))]
+        self.manifests = [read(path) for path in self.paths]
 
     def state(self):
-        state = engine.Handle()
-        self.library.call("state_new", self.held, byref(state))
+        state = _library.Held(self.library)
+        self.held.call("state_new", byref(state.handle))
         return state
 
     def take(self, state, i):
-        self.library.call("state_take", state, c_size_t(i), *engine.lent(self.manifests[i]))
+        state.call("state_take", i, *_library.given(self.manifests[i]))
 
 
-def finished(library, state):
+def finished(state):
     """The plan's text, or the line of the refusal."""
-    call = library.calls["icescan_finish"]
-    if call(byref(state)) == 0:
-        told = b"".join(engine.lines(library, state))
-    else:
-        line = engine.Bytes()
-        library.call("fault", state, byref(line))
-        told = line.read()
-    library.free(state)
-    return told
+    with state:
+        try:
+            state.call("finish")
+        except Error as refused:
+            return refused.line
+        return _text.text_of(_plan.Plan(_plan.files_of(state)))
 
 
 def by_one(scan, wanted):
     state = scan.state()
     for i in wanted:
         scan.take(state, i)
-    return finished(scan.library, state)
+    return finished(state)
 
 
 def shares(draw, many):
@@ -91,11 +80,11 @@ def brought_together(scan, draw, states):
         (state, took), (other, others) = states[a], states[b]
         states[a] = (state, took | others)
         how = draw.choice(("state_absorb", "state_merge"))
-        scan.library.call(how, state, byref(other))
+        state.call(how, byref(other.handle))
         if how == "state_merge" and again > 0 and draw.random() < 0.5:
             again -= 1
         else:
-            scan.library.free(other)
+            other.free()
             del states[b]
     return states[0]
 
@@ -108,11 +97,11 @@ def run(scan, draw, whole):
     for i in left:
         if i not in skipped:
             scan.take(state, i)
-    told = finished(scan.library, state)
+    told = finished(state)
     if not skipped:
         return told == whole
-    missing = engine.escaped(min(scan.paths[i] for i in skipped))
-    return told == b"icescan: Z1 Missing %s\n" % missing
+    missing = min(scan.paths[i] for i in skipped)
+    return told == f"Z1 Missing {_text.escaped(missing)}"
 
 
 def main():
@@ -120,16 +109,11 @@ def main():
         sys.exit(__doc__)
     path, folder, prefix, metadata, *rest = sys.argv[1:]
     text, runs, seed = rest[0] if rest else "", int(rest[1]) if rest[1:] else 200, int(rest[2]) if rest[2:] else 1
-
-    def read(name):
-        with open(folder.encode() + name[len(prefix.encode()):], "rb") as file:
-            return file.read()
-
-    scan = Scan(engine.Library(path), read, metadata.encode(), text.encode())
+    scan = Scan(_library.loaded(path), Folder(folder, prefix), metadata, text)
     whole = by_one(scan, range(len(scan.paths)))
     draw = random.Random(seed)
     wrong = sum(not run(scan, draw, whole) for _ in range(runs))
-    scan.library.free(scan.held)
+    scan.held.free()
     print(f"{runs} trees over {len(scan.paths)} manifests, {wrong} wrong")
     sys.exit(1 if wrong else 0)
 

@@ -1,0 +1,116 @@
+/* The functions of the library as its callers have them. Each refuses NULL, and then calls the proved function of its
+ * name. What may grow in later versions is written as far as the caller has room for it. */
+#include "proved.h"
+
+#include <string.h>
+
+static const uint8_t nothing[1];
+
+/* Whether there should be bytes at NULL. */
+static int lacks(const uint8_t *bytes, size_t len) {
+    return !bytes && len;
+}
+
+/* NULL with a length of 0 is no bytes. */
+static const uint8_t *some(const uint8_t *bytes) {
+    return bytes ? bytes : nothing;
+}
+
+/* Hands out what was told, in the caller's size, unless the call was refused. */
+static uint32_t hand_out(uint32_t status, void *to, size_t size, const void *told, size_t told_size) {
+    if (status == ICESCAN_OK)
+        memcpy(to, told, size < told_size ? size : told_size);
+    return status;
+}
+
+uint32_t icescan_version(void) {
+    return ICESCAN_VERSION;
+}
+
+uint32_t icescan_scan_new(icescan_handle *scan, const uint8_t *metadata, size_t metadata_len, const uint8_t *name,
+                          size_t name_len, const uint8_t *filter, size_t filter_len) {
+    if (!scan || lacks(metadata, metadata_len) || lacks(name, name_len) || lacks(filter, filter_len))
+        return ICESCAN_NULL;
+    return proved_icescan_scan_new(scan, some(metadata), metadata_len, some(name), name_len, some(filter), filter_len);
+}
+
+uint32_t icescan_scan_new_at(icescan_handle *scan, const uint8_t *metadata, size_t metadata_len, int64_t snapshot,
+                             const uint8_t *filter, size_t filter_len) {
+    if (!scan || lacks(metadata, metadata_len) || lacks(filter, filter_len))
+        return ICESCAN_NULL;
+    return proved_icescan_scan_new_at(scan, some(metadata), metadata_len, snapshot, some(filter), filter_len);
+}
+
+uint32_t icescan_scan_list(icescan_handle *scan, icescan_bytes *path) {
+    return scan && path ? proved_icescan_scan_list(scan, path) : ICESCAN_NULL;
+}
+
+uint32_t icescan_scan_start(icescan_handle *scan, const uint8_t *list, size_t list_len) {
+    if (!scan || lacks(list, list_len))
+        return ICESCAN_NULL;
+    return proved_icescan_scan_start(scan, some(list), list_len);
+}
+
+uint32_t icescan_scan_count(icescan_handle *scan, size_t *count) {
+    return scan && count ? proved_icescan_scan_count(scan, count) : ICESCAN_NULL;
+}
+
+uint32_t icescan_scan_wanted(icescan_handle *scan, size_t i, icescan_bytes *path) {
+    return scan && path ? proved_icescan_scan_wanted(scan, i, path) : ICESCAN_NULL;
+}
+
+uint32_t icescan_state_new(icescan_handle *scan, icescan_handle *state) {
+    return scan && state ? proved_icescan_state_new(scan, state) : ICESCAN_NULL;
+}
+
+uint32_t icescan_state_take(icescan_handle *state, size_t i, const uint8_t *manifest, size_t manifest_len) {
+    if (!state || lacks(manifest, manifest_len))
+        return ICESCAN_NULL;
+    return proved_icescan_state_take(state, i, some(manifest), manifest_len);
+}
+
+uint32_t icescan_state_merge(icescan_handle *state, icescan_handle *other) {
+    return state && other ? proved_icescan_state_merge(state, other) : ICESCAN_NULL;
+}
+
+uint32_t icescan_state_absorb(icescan_handle *state, icescan_handle *other) {
+    return state && other ? proved_icescan_state_absorb(state, other) : ICESCAN_NULL;
+}
+
+uint32_t icescan_finish(icescan_handle *state) {
+    return state ? proved_icescan_finish(state) : ICESCAN_NULL;
+}
+
+uint32_t icescan_plan_count(icescan_handle *plan, size_t *count) {
+    return plan && count ? proved_icescan_plan_count(plan, count) : ICESCAN_NULL;
+}
+
+uint32_t icescan_plan_file(icescan_handle *plan, size_t i, icescan_file *file, size_t size) {
+    icescan_file told = ICESCAN_NO_FILE;
+    if (!plan || !file)
+        return ICESCAN_NULL;
+    return hand_out(proved_icescan_plan_file(plan, i, &told), file, size, &told, sizeof told);
+}
+
+uint32_t icescan_plan_position(icescan_handle *plan, size_t i, size_t j, icescan_file *file, size_t size) {
+    icescan_file told = ICESCAN_NO_FILE;
+    if (!plan || !file)
+        return ICESCAN_NULL;
+    return hand_out(proved_icescan_plan_position(plan, i, j, &told), file, size, &told, sizeof told);
+}
+
+uint32_t icescan_plan_equality(icescan_handle *plan, size_t i, size_t j, icescan_file *file, size_t size) {
+    icescan_file told = ICESCAN_NO_FILE;
+    if (!plan || !file)
+        return ICESCAN_NULL;
+    return hand_out(proved_icescan_plan_equality(plan, i, j, &told), file, size, &told, sizeof told);
+}
+
+uint32_t icescan_fault(icescan_handle *handle, icescan_bytes *line) {
+    return handle && line ? proved_icescan_fault(handle, line) : ICESCAN_NULL;
+}
+
+void icescan_free(icescan_handle *handle) {
+    if (handle)
+        proved_icescan_free(handle);
+}

@@ -1,0 +1,28 @@
+/* The functions that crates/icescan_c exports and that are proved, under the names that tools/build_c gives them. They
+ * take bytes, handles and what is written to to be there. */
+#ifndef ICESCAN_PROVED_H
+#define ICESCAN_PROVED_H
+
+#include "icescan.h"
+
+uint32_t proved_icescan_scan_new(icescan_handle *scan, const uint8_t *metadata, size_t metadata_len,
+                                 const uint8_t *name, size_t name_len, const uint8_t *filter, size_t filter_len);
+uint32_t proved_icescan_scan_new_at(icescan_handle *scan, const uint8_t *metadata, size_t metadata_len,
+                                    int64_t snapshot, const uint8_t *filter, size_t filter_len);
+uint32_t proved_icescan_scan_list(icescan_handle *scan, icescan_bytes *path);
+uint32_t proved_icescan_scan_start(icescan_handle *scan, const uint8_t *list, size_t list_len);
+uint32_t proved_icescan_scan_count(icescan_handle *scan, size_t *count);
+uint32_t proved_icescan_scan_wanted(icescan_handle *scan, size_t i, icescan_bytes *path);
+uint32_t proved_icescan_state_new(icescan_handle *scan, icescan_handle *state);
+uint32_t proved_icescan_state_take(icescan_handle *state, size_t i, const uint8_t *manifest, size_t manifest_len);
+uint32_t proved_icescan_state_merge(icescan_handle *state, icescan_handle *other);
+uint32_t proved_icescan_state_absorb(icescan_handle *state, icescan_handle *other);
+uint32_t proved_icescan_finish(icescan_handle *state);
+uint32_t proved_icescan_plan_count(icescan_handle *plan, size_t *count);
+uint32_t proved_icescan_plan_file(icescan_handle *plan, size_t i, icescan_file *file);
+uint32_t proved_icescan_plan_position(icescan_handle *plan, size_t i, size_t j, icescan_file *file);
+uint32_t proved_icescan_plan_equality(icescan_handle *plan, size_t i, size_t j, icescan_file *file);
+uint32_t proved_icescan_fault(icescan_handle *handle, icescan_bytes *line);
+void proved_icescan_free(icescan_handle *handle);
+
+#endif

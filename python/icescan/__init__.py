@@ -1,0 +1,49 @@
+"""Which data files a scan of an Apache Iceberg table (format version 2) has to read, and which delete files apply.
+
+    import icescan
+
+    plan = icescan.plan(
+        "s3://warehouse/db/events/metadata/00009-ea5012f5-592b-59fd-6564-e953f439e682.metadata.json",
+        folder="examples/events-java/table",
+        prefix="s3://warehouse/db/events",
+        filter="id = 42",
+    )
+    for file in plan:
+        print(file.path, [it.path for it in file.position_deletes + file.equality_deletes])
+
+Manifests and manifest lists have to be without compression. Rows that are read must still be filtered.
+"""
+from ._errors import (
+    EncodingError,
+    Error,
+    FilterError,
+    KindError,
+    LibraryNotFound,
+    NullError,
+    OtherScan,
+    OutOfMemory,
+    PastEnd,
+    TableError,
+)
+from ._files import Folder
+from ._plan import DataFile, DeleteFile, Plan, plan
+
+__version__ = "0.1.0"
+
+__all__ = [
+    "DataFile",
+    "DeleteFile",
+    "EncodingError",
+    "Error",
+    "FilterError",
+    "Folder",
+    "KindError",
+    "LibraryNotFound",
+    "NullError",
+    "OtherScan",
+    "OutOfMemory",
+    "PastEnd",
+    "Plan",
+    "TableError",
+    "plan",
+]

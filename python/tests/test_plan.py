@@ -1,0 +1,230 @@
+"""Plans of the example tables, and refusals. ICESCAN_LIBRARY says where the shared library is:
+
+    tools/build_c /tmp/icescan
+    cd python && ICESCAN_LIBRARY=/tmp/icescan/lib/libicescan.so python3 -m unittest
+"""
+import ctypes
+import importlib.util
+import os
+import sys
+import threading
+import types
+import unittest
+from unittest import mock
+
+import icescan
+from icescan import _library, _plan
+
+EXAMPLES = os.path.join(os.path.dirname(os.path.abspath(__file__)), "..", "..", "examples")
+EVENTS = "s3://warehouse/db/events"
+EVENTS_METADATA = f"{EVENTS}/metadata/00009-ea5012f5-592b-59fd-6564-e953f439e682.metadata.json"
+LIST = "snap-7559570768388442785-1-abbca149-133e-4733-c1b4-179d137ebc57"
+PLAIN = "s3://warehouse/db/plain"
+PLAIN_METADATA = f"{PLAIN}/metadata/00005-c64aaab7-8283-c18e-53ea-99e6e56da046.metadata.json"
+# What is asked of the table of events, by the name of the file that has its plan.
+ASKED = {
+    "all": {},
+    "before1970": {"filter": "ts < 0"},
+    "cat": {"filter": "(cat = 'books' or code in (7, 9))"},
+    "code_null": {"filter": "code is null"},
+    "day": {"filter": "(ts >= 1709856000000000 and ts < 1709942400000000)"},
+    "id42": {"filter": "id = 42"},
+    "id_in_day": {"filter": "(id in (34, 42) and ts > 1710028799999999)"},
+    "none": {"filter": "false"},
+    "note": {"filter": "(note starts with 'note 4' and cat is not null)"},
+    "snapshot5": {"snapshot": 27284459368031241, "filter": "id not in (7)"},
+    "tag_old_schema": {"ref": "eoy", "filter": "(category starts with 'b' and code >= 3)"},
+    "wap": {"ref": "wap", "filter": "ts <= 1709683200000000"},
+}
+
+
+def folder_of(table):
+    return os.path.join(EXAMPLES, table, "table")
+
+
+def expected(table, name):
+    with open(os.path.join(EXAMPLES, table, "expected", f"{name}.txt"), encoding="utf-8") as file:
+        return file.read()
+
+
+def events(**asked):
+    return icescan.plan(EVENTS_METADATA, folder=folder_of("events-java"), prefix=EVENTS, **asked)
+
+
+def one_plan():
+    """The plan of the table of events, as the library holds it."""
+    read = icescan.Folder(folder_of("events-java"), EVENTS)
+    with _plan.started(_library.loaded(_library.place()), EVENTS_METADATA, read, "", None, None) as scan:
+        return _plan.finished(scan, read, 1)
+
+
+class Plans(unittest.TestCase):
+    def test_events(self):
+        for name, asked in ASKED.items():
+            with self.subTest(name):
+                self.assertEqual(events(**asked).text(), expected("events-java", name))
+
+    def test_plain(self):
+        plan = icescan.plan(PLAIN_METADATA, folder=folder_of("plain-java"), prefix=PLAIN)
+        self.assertEqual(plan.text(), expected("plain-java", "list-plan"))
+
+    def test_any_number_of_workers(self):
+        for workers in (1, 2, 3, 16):
+            with self.subTest(workers=workers):
+                self.assertEqual(events(workers=workers).text(), expected("events-java", "all"))
+
+    def test_files_are_plain_objects(self):
+        plan = events(filter="id = 42")
+        file = next(it for it in plan if it.path.endswith("imported file.orc"))
+        self.assertEqual((file.sequence_number, file.spec_id, file.record_count, file.file_size), (8, 0, 1, 1))
+        self.assertEqual(len(plan), len(plan.files))
+        self.assertEqual(file.position_deletes + file.equality_deletes, ())
+        self.assertEqual(plan, events(filter="id = 42", workers=1))
+
+    def test_a_delete_file_is_one_object(self):
+        deletes = [it for file in events() for it in file.equality_deletes]
+        self.assertEqual(len({id(it) for it in deletes}), len(set(deletes)))
+        self.assertIn((1, 3), {it.equality_ids for it in deletes})
+
+
+class Sizes(unittest.TestCase):
+    def test_a_smaller_file_gets_its_front(self):
+        with one_plan() as held:
+            whole, front = _library.File(), _library.File(record_count=-77)
+            held.call("plan_file", 0, *_library.told(whole))
+            held.call("plan_file", 0, ctypes.byref(front), _library.File.record_count.offset)
+            self.assertEqual((front.path.text(), front.record_count), (whole.path.text(), -77))
+
+    def test_a_larger_file_keeps_what_is_not_known(self):
+        class Larger(ctypes.Structure):
+            _fields_ = [("file", _library.File), ("later", ctypes.c_uint64)]
+
+        with one_plan() as held:
+            larger = Larger(later=77)
+            file = ctypes.cast(ctypes.byref(larger), ctypes.POINTER(_library.File))
+            held.call("plan_file", 0, file, ctypes.sizeof(larger))
+            self.assertEqual((larger.file.path.text()[:5], larger.later), ("s3://", 77))
+
+
+class Reads(unittest.TestCase):
+    def setUp(self):
+        self.folder = icescan.Folder(folder_of("events-java"), EVENTS)
+
+    def test_by_a_function(self):
+        paths = []
+
+        def read(path):
+            paths.append(path)
+            return bytearray(self.folder(path))
+
+        plan = icescan.plan(EVENTS_METADATA, read=read, workers=3)
+        self.assertEqual(plan.text(), expected("events-java", "all"))
+        self.assertEqual(paths[0], EVENTS_METADATA)
+        self.assertEqual(len(paths), len(set(paths)))
+
+    def test_workers_read_at_once(self):
+        paths = []
+        icescan.plan(EVENTS_METADATA, read=lambda path: paths.append(path) or self.folder(path))
+        wanted = len(paths) - 2
+        all_read = threading.Barrier(wanted)
+
+        def read(path):
+            if path.endswith(".avro") and LIST not in path:
+                all_read.wait(timeout=60)
+            return self.folder(path)
+
+        self.assertGreater(wanted, 4)
+        plan = icescan.plan(EVENTS_METADATA, read=read, workers=wanted)
+        self.assertEqual(plan.text(), expected("events-java", "all"))
+
+    def test_what_a_read_raises_is_raised(self):
+        for end in (".json", f"{LIST}.avro", "u3-m0.avro"):
+            for workers in (1, 4):
+
+                def read(path):
+                    if path.endswith(end):
+                        raise ConnectionError(path)
+                    return self.folder(path)
+
+                with self.subTest(end, workers=workers), self.assertRaises(ConnectionError) as raised:
+                    icescan.plan(EVENTS_METADATA, read=read, workers=workers)
+                self.assertTrue(str(raised.exception).endswith(end))
+
+    def test_outside_of_the_folder(self):
+        for path in ("s3://other/a", f"{EVENTS}/metadata/../../../README.md", f"{EVENTS}/./metadata/u0-m0.avro"):
+            with self.subTest(path), self.assertRaises(FileNotFoundError):
+                self.folder(path)
+        self.assertEqual(self.folder(f"{EVENTS}/metadata/u0-m0.avro")[:4], b"Obj\x01")
+
+    def test_without_a_folder_paths_are_of_this_system(self):
+        metadata = os.path.join(folder_of("events-java"), EVENTS_METADATA[len(EVENTS) + 1:])
+        for path in (metadata, "file://" + os.path.abspath(metadata)):
+            with self.subTest(path), self.assertRaisesRegex(FileNotFoundError, "give folder and prefix, or read"):
+                icescan.plan(path)
+
+
+class Refusals(unittest.TestCase):
+    def refused(self, error, reason, **asked):
+        with self.assertRaises(error) as raised:
+            events(**asked)
+        self.assertEqual(raised.exception.reason, reason)
+        return raised.exception
+
+    def test_of_a_filter(self):
+        error = self.refused(icescan.FilterError, "F2", filter="colour = 'red'")
+        self.assertEqual((error.line, str(error), error.status), ("F2 NoSuchColumn", "F2 NoSuchColumn", 2))
+        self.refused(icescan.FilterError, "F3", filter="id = 'red'")
+        self.refused(icescan.EncodingError, "", filter="cat = '\ud800'")
+
+    def test_of_a_snapshot(self):
+        self.assertIsInstance(self.refused(icescan.TableError, "M6", ref="nowhere"), icescan.Error)
+        self.refused(icescan.TableError, "M7", snapshot=1)
+        self.refused(icescan.EncodingError, "", ref="\ud800")
+
+    def test_of_files(self):
+        folder = icescan.Folder(folder_of("events-java"), EVENTS)
+        for end, reason in {".metadata.json": "M1", f"{LIST}.avro": "N1", "u0-m0.avro": "Z2"}.items():
+            with self.subTest(end), self.assertRaises(icescan.TableError) as raised:
+                icescan.plan(EVENTS_METADATA, read=lambda path: b"" if path.endswith(end) else folder(path))
+            self.assertEqual(raised.exception.reason, reason, raised.exception.line)
+
+    def test_of_arguments(self):
+        for asked in ({"ref": "eoy", "snapshot": 1}, {"snapshot": 2**63}, {"workers": 0}, {"read": len}):
+            with self.subTest(asked), self.assertRaises(ValueError):
+                events(**asked)
+
+    def test_without_the_library(self):
+        with mock.patch.dict(os.environ, ICESCAN_LIBRARY="/nowhere/libicescan.so"):
+            with self.assertRaisesRegex(icescan.LibraryNotFound, "/nowhere/libicescan.so"):
+                events()
+
+
+class Arrow(unittest.TestCase):
+    def test_rows_have_the_columns_that_are_declared(self):
+        names = ("string", "uint64", "int32", "int64", "list_", "struct")
+        kinds = {name: lambda *of, name=name: (name, *of) for name in names}
+        table = types.SimpleNamespace(from_pylist=lambda rows, schema: (rows, schema))
+        fake = types.SimpleNamespace(**kinds, schema=dict, Table=table)
+        with mock.patch.dict(sys.modules, pyarrow=fake):
+            rows, schema = events().to_arrow()
+        (_, (_, columns)) = schema["equality_deletes"]
+        self.assertEqual({tuple(it) for it in rows}, {tuple(schema)})
+        self.assertEqual({tuple(it) for row in rows for it in row["equality_deletes"]}, {tuple(dict(columns))})
+        self.assertEqual(len(rows), len(events()))
+
+    @unittest.skipIf(importlib.util.find_spec("pyarrow"), "pyarrow is here")
+    def test_without_pyarrow(self):
+        with self.assertRaisesRegex(ImportError, "pip install pyarrow"):
+            events().to_arrow()
+
+    @unittest.skipUnless(importlib.util.find_spec("pyarrow"), "there is no pyarrow")
+    def test_rows(self):
+        plan = events(filter="id = 42")
+        table = plan.to_arrow()
+        self.assertEqual(table.column("path").to_pylist(), [it.path for it in plan])
+        ids = [[it["equality_ids"] for it in row] for row in table.column("equality_deletes").to_pylist()]
+        self.assertEqual(ids, [[list(it.equality_ids) for it in file.equality_deletes] for file in plan])
+
+
+if __name__ == "__main__":
+    unittest.main()
