@@ -18,6 +18,7 @@ pub mod AmongPairs
 pub mod ColumnsTold
 pub mod Miscounts
 pub mod Little
+pub mod Standing
 pub mod Keyed
 pub mod Unlike
 pub mod Honest

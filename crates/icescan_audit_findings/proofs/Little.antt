@@ -24,7 +24,7 @@ past_none : (low : Option Cell) → is_past low None ≡ false
 past_none None = refl
 past_none (Some low) = refl
 
-no_low : (t : Option ColumnType) (high : Option (List ℕ)) → cross t None high ≡ false
+pub no_low : (t : Option ColumnType) (high : Option (List ℕ)) → cross t None high ≡ false
 no_low None high = refl
 no_low (Some t) high = ap (λ low. is_past low (limit t high)) (no_limit t)
 

@@ -7,6 +7,7 @@ pub mod Lookups
 pub mod Ids
 pub mod ColumnFlaws
 pub mod ColumnsSaid
+pub mod Places
 pub mod Counting
 pub mod EntryFlaws
 pub mod FieldFlaws

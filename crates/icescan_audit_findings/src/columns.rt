@@ -1,8 +1,10 @@
 //! What a manifest says of the columns of a file and what can't be.
 
-ghost use Rattle.std.specs.Prelude.{◌≡◌, ◌++◌, ◌&&◌, ◌||◌, not, true, is_some, IfOk, IfSome, OnOk, Some};
+ghost use Rattle.std.specs.Prelude.{◌≡◌, ◌<◌, ◌≤◌, ◌⊎◌, ◌++◌, ◌&&◌, ◌||◌, not, true, false, is_some, IfOk, IfSome, OnOk};
+ghost use Rattle.std.specs.Prelude.{Some, length};
 ghost use Rattle.std.specs.Cmp.Lexicographic.{slice_cmp};
-ghost use Rattle.std.specs.Option.{option_copied};
+ghost use Rattle.std.specs.Option.{ForSome, option_copied};
+ghost use Rattle.std.specs.List.Sorted.{IsNonDecreasing};
 ghost use Rattle.std.specs.Ordering.{is_gt, nat_cmp};
 ghost use Rattle.icescan_audit_findings.specs.ColumnFlaws.{column_flaws, columns_flaws, cross, is_more, is_past};
 ghost use Rattle.icescan_audit_findings.specs.ColumnFlaws.{count_flaws_of, is_less_than_none};
@@ -11,6 +13,7 @@ ghost use Rattle.icescan_audit_findings.specs.ColumnsSaid.{AreMapsOf, AreSaidOf,
 ghost use Rattle.icescan_audit_findings.specs.ColumnsSaid.{is_of_bytes};
 ghost use Rattle.icescan_audit_findings.specs.Flaws.{flaw_where};
 ghost use Rattle.icescan_audit_findings.specs.Ids.{Rises};
+ghost use Rattle.icescan_audit_findings.specs.Places.{FindsEach, HasFlawed};
 ghost use Rattle.ice_project.specs.Limits.{limit};
 ghost use Rattle.ice_value.specs.declared.file_bounds.FileBounds.{FileBounds};
 
@@ -18,9 +21,30 @@ use crate::basis::TypedColumn;
 use crate::finding::{ColumnFlaw, Flaw};
 use crate::ids::{last_said, place_near};
 use crate::pairs::RisingPairs;
+use crate::places::few_places;
 use ice_value::{ColumnType, FileBounds, compare_bound, read_bound};
 use std::alloc::{AllocError, Global};
 use std::cmp::Ordering;
+
+/// Where a map whose ids rise says something of fewer than one column in so many, only these are looked at. It takes
+/// a search for each of them, and the others take a look each.
+const LEAST_FOR_EACH: usize = 16;
+
+/// Where a map's ids do not rise, the same where it says something of at most so many columns: each is searched for from
+/// the map's first pair on.
+const MOST_SEARCHED: usize = 64;
+
+/// The columns of a schema, and where they stand.
+#[derive(Drop)]
+pub struct SchemaColumns<'a> {
+    pub all: &'a [TypedColumn],
+    /// Their ids, if no two have the same, as they rise; else none.
+    pub ids: &'a [i32],
+    /// Their places by their ids, if no two have the same.
+    pub places: Option<RisingPairs<'a, usize>>,
+    ghost rises: { Rises ids.now },
+    ghost finds: { ForSome places (λ by_id. FindsEach all.now by_id.pairs.now) },
+}
 
 /// The maps of the columns of a file, where the ids of the pairs of each rise.
 #[derive(Drop)]
@@ -110,12 +134,19 @@ fn column_said<'a>(
             lower_bound: said.lower_bounds[place],
             upper_bound: said.upper_bounds[place],
         },
-        None => ColumnSaid {
-            value_count: bounds.value_count(column),
-            null_count: bounds.null_count(column),
-            lower_bound: bounds.lower_bound(column),
-            upper_bound: bounds.upper_bound(column),
-        },
+        None => column_looked_up(bounds, column),
+    }
+}
+
+/// What the manifest says of a column, looked up in its maps.
+fn column_looked_up<'a>(bounds: &'a FileBounds<'_, '_>, column: i32) -> ColumnSaid<'a>
+    ensures { IsSaidOf bounds.now column result }
+{
+    ColumnSaid {
+        value_count: bounds.value_count(column),
+        null_count: bounds.null_count(column),
+        lower_bound: bounds.lower_bound(column),
+        upper_bound: bounds.upper_bound(column),
     }
 }
 
@@ -333,6 +364,39 @@ fn push_flaws_found(
     Ok(())
 }
 
+/// Whether the place is in front of this one, or no column is at it.
+fn is_passed(columns: &[TypedColumn], from: usize, place: usize) -> bool
+    ensures passed { result ≡ true → (place < from) ⊎ (length columns.now ≤ place) }
+    ensures ahead { result ≡ false → (from ≤ place) × (place < length columns.now) }
+{
+    place < from || columns.len() <= place
+}
+
+/// The same where something can be wrong only of the columns at these places, which do not fall.
+fn push_flaws_found_at(
+    alloc: Global,
+    flaws: &mut Vec<Flaw>,
+    columns: &[TypedColumn],
+    places: &[usize],
+    maps: &mut RisingMaps<'_, '_>,
+) -> Result<(), AllocError>
+    requires { IsNonDecreasing places.now }
+    ensures { (file : FileBounds) → AreMapsOf file maps.old → HasFlawed file columns.now places.now →
+        OnOk result (flaws.new.items ≡ flaws.old.items ++ columns_flaws file columns.now) }
+{
+    let mut from = 0;
+    'places: for place in places {
+        if is_passed(columns, from, *place) {
+            continue;
+        }
+        let column = &columns[*place];
+        let of_column = column_found(maps, column.id);
+        push_column_flaws(alloc, flaws, column, &of_column)?;
+        from = *place + 1;
+    }
+    Ok(())
+}
+
 /// The same, also where the ids of a map do not rise: what it says last of each column is put in a list first.
 fn push_flaws_listed(
     alloc: Global,
@@ -353,6 +417,31 @@ fn push_flaws_listed(
     Ok(())
 }
 
+/// The same where something can be wrong only of the columns at these places, which do not fall.
+fn push_flaws_said_at(
+    alloc: Global,
+    flaws: &mut Vec<Flaw>,
+    columns: &[TypedColumn],
+    places: &[usize],
+    bounds: &FileBounds<'_, '_>,
+) -> Result<(), AllocError>
+    requires sorted { IsNonDecreasing places.now }
+    requires flawed { HasFlawed bounds.now columns.now places.now }
+    ensures { OnOk result (flaws.new.items ≡ flaws.old.items ++ columns_flaws bounds.now columns.now) }
+{
+    let mut from = 0;
+    'places: for place in places {
+        if is_passed(columns, from, *place) {
+            continue;
+        }
+        let column = &columns[*place];
+        let of_column = column_looked_up(bounds, column.id);
+        push_column_flaws(alloc, flaws, column, &of_column)?;
+        from = *place + 1;
+    }
+    Ok(())
+}
+
 /// Whether what is said of no column can be wrong: that takes a lower bound and an upper one, or a count.
 fn says_little(bounds: &FileBounds<'_, '_>) -> bool
     ensures { result ≡ true → SaysLittle bounds.now }
@@ -364,23 +453,53 @@ fn says_little(bounds: &FileBounds<'_, '_>) -> bool
     lacks_bounds && lacks_counts
 }
 
-/// Puts what is wrong with what is said of the schema's columns last, column by column. Where the ids of a map do not
-/// rise, these ids, which rise, are looked up quickly; those of all columns are best.
+/// Puts what is wrong with what is said of the schema's columns last, column by column, where the ids of each map rise.
+fn push_rising_flaws(
+    alloc: Global,
+    flaws: &mut Vec<Flaw>,
+    columns: &SchemaColumns<'_>,
+    bounds: &FileBounds<'_, '_>,
+    maps: &mut RisingMaps<'_, '_>,
+) -> Result<(), AllocError>
+    requires { AreMapsOf bounds.now maps.now }
+    ensures { OnOk result (flaws.new.items ≡ flaws.old.items ++ columns_flaws bounds.now columns.now.all.now) }
+{
+    let most = columns.all.len() / LEAST_FOR_EACH;
+    match few_places(alloc, &columns.places, bounds, most)? {
+        Some(places) => push_flaws_found_at(alloc, flaws, columns.all, &places, maps),
+        None => push_flaws_found(alloc, flaws, columns.all, maps),
+    }
+}
+
+/// The same where they do not.
+fn push_other_flaws(
+    alloc: Global,
+    flaws: &mut Vec<Flaw>,
+    columns: &SchemaColumns<'_>,
+    bounds: &FileBounds<'_, '_>,
+) -> Result<(), AllocError>
+    ensures { OnOk result (flaws.new.items ≡ flaws.old.items ++ columns_flaws bounds.now columns.now.all.now) }
+{
+    match few_places(alloc, &columns.places, bounds, MOST_SEARCHED)? {
+        Some(places) => push_flaws_said_at(alloc, flaws, columns.all, &places, bounds),
+        None => push_flaws_listed(alloc, flaws, columns.all, columns.ids, bounds),
+    }
+}
+
+/// Puts what is wrong with what is said of the schema's columns last, column by column.
 pub fn push_columns_flaws(
     alloc: Global,
     flaws: &mut Vec<Flaw>,
-    columns: &[TypedColumn],
-    ids: &[i32],
+    columns: &SchemaColumns<'_>,
     bounds: &FileBounds<'_, '_>,
 ) -> Result<(), AllocError>
-    requires { Rises ids.now }
-    ensures { OnOk result (flaws.new.items ≡ flaws.old.items ++ columns_flaws bounds.now columns.now) }
+    ensures { OnOk result (flaws.new.items ≡ flaws.old.items ++ columns_flaws bounds.now columns.now.all.now) }
 {
     if says_little(bounds) {
         return Ok(());
     }
     match rising_maps(bounds) {
-        Some(mut maps) => push_flaws_found(alloc, flaws, columns, &mut maps),
-        None => push_flaws_listed(alloc, flaws, columns, ids, bounds),
+        Some(mut maps) => push_rising_flaws(alloc, flaws, columns, bounds, &mut maps),
+        None => push_other_flaws(alloc, flaws, columns, bounds),
     }
 }

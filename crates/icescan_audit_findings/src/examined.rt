@@ -6,18 +6,20 @@ ghost use Rattle.icescan_audit_findings.specs.Coverage.{row_limits};
 ghost use Rattle.icescan_audit_findings.specs.Examining.{examined};
 ghost use Rattle.icescan_audit_findings.specs.FieldFlaws.{sources_of};
 ghost use Rattle.icescan_audit_findings.specs.Ids.{Rises};
+ghost use Rattle.icescan_audit_findings.specs.Places.{HasPlaces};
 ghost use Rattle.ice_manifest_reading.specs.Manifests.{live_of};
 ghost use Rattle.ice_manifest_reading.specs.Tallying.{tallies_of};
 ghost use Rattle.ice_manifest_reading.specs.Telling.{told_of};
 
 use crate::basis::Basis;
-use crate::columns::push_columns_flaws;
+use crate::columns::{SchemaColumns, push_columns_flaws};
 use crate::fields::{SourceField, sources_of};
 use crate::file_key::{KeptKey, key_of};
 use crate::finding::Flaw;
 use crate::flaws::{flaws_of, push_further_flaws};
 use crate::ids::rising_ids;
 use crate::limits::{FieldLimits, row_limits};
+use crate::places::{found_by_id, places_by_id};
 use contract_words::Items;
 use ice_manifest_reading::{Live, ManifestFault, Row, Tallied, Tell, read_tallied};
 use ice_meta::Spec;
@@ -40,9 +42,9 @@ struct Against<'a> {
     basis: &'a Basis,
     row: &'a Row,
     limits: &'a [FieldLimits],
-    ids: &'a [i32],
+    columns: SchemaColumns<'a>,
     fields: &'a [SourceField],
-    ghost rises: { Rises ids.now },
+    ghost all: { columns.all.now ≡ basis.now.typed },
     ghost sources: { fields.now ≡ sources_of basis.now row.now },
 }
 
@@ -54,8 +56,7 @@ impl<'a> Tell for Against<'a> {
     fn tell(&self, alloc: Global, live: &Live<'_, '_>) -> Result<Examined, AllocError> {
         let entry = live.entry.lent();
         let mut flaws = flaws_of(alloc, self.basis, self.row, self.limits, &entry)?;
-        let columns = self.basis.typed.as_slice();
-        push_columns_flaws(alloc, &mut flaws, columns, self.ids, &live.bounds)?;
+        push_columns_flaws(alloc, &mut flaws, &self.columns, &live.bounds)?;
         push_further_flaws(
             alloc,
             &mut flaws,
@@ -70,6 +71,34 @@ impl<'a> Tell for Against<'a> {
             flaws: Items::from_vec(flaws),
             key: key_of(alloc, self.basis, &entry)?,
         })
+    }
+}
+
+/// What live entries are held against, with the columns' places by their ids.
+fn held_against<'x>(
+    basis: &'x Basis,
+    row: &'x Row,
+    limits: &'x [FieldLimits],
+    ids: &'x [i32],
+    by_id: &'x [(i32, usize)],
+    fields: &'x [SourceField],
+) -> Against<'x>
+    requires rises { Rises ids.now }
+    requires places { HasPlaces basis.now.typed by_id.now }
+    requires sources { fields.now ≡ sources_of basis.now row.now }
+    ensures basis { result.basis.now ≡ basis.now }
+    ensures row { result.row.now ≡ row.now }
+    ensures limits { result.limits.now ≡ limits.now }
+{
+    let all = basis.typed.as_slice();
+    let places = found_by_id(all, by_id);
+    let columns = SchemaColumns { all, ids, places };
+    Against {
+        basis,
+        row,
+        limits,
+        columns,
+        fields,
     }
 }
 
@@ -89,13 +118,16 @@ pub fn examine(
 {
     let limits = row_limits(alloc, spec, row)?;
     let ids = rising_ids(alloc, basis.typed.as_slice())?;
+    let by_id = places_by_id(alloc, basis.typed.as_slice())?;
     let fields = sources_of(alloc, basis, row)?;
-    let against = Against {
+    let allowed = limits.as_slice();
+    let against = held_against(
         basis,
         row,
-        limits: limits.as_slice(),
-        ids: ids.as_slice(),
-        fields: fields.as_slice(),
-    };
+        allowed,
+        ids.as_slice(),
+        by_id.as_slice(),
+        fields.as_slice(),
+    );
     read_tallied(alloc, row, spec, &against, bytes)
 }

@@ -17,6 +17,7 @@ mod ids;
 mod laws;
 mod limits;
 mod pairs;
+mod places;
 mod repeats;
 mod rows;
 mod spelling;

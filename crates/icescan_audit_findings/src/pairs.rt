@@ -80,6 +80,16 @@ impl<'a, T: Copy> RisingPairs<'a, T> {
         }
     }
 
+    /// The same pairs, to be gone through from the first on.
+    pub fn anew(&self) -> Self
+        ensures { result.pairs ≡ self.now.pairs }
+    {
+        RisingPairs {
+            pairs: self.pairs,
+            next: 0,
+        }
+    }
+
     /// What the pairs say of an id. It is found quickest where it comes next behind the one that was found before.
     pub fn said_of(&mut self, id: i32) -> Option<T>
         ensures said { result ≡ last_of id self.old.pairs.now }

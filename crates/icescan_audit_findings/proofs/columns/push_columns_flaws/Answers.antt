@@ -6,5 +6,5 @@ use Rattle.icescan_audit_findings.proofs.columns.push_columns_flaws.Goals as goa
 
 pub returns-then-says_little : goal.returns-then-says_little
 returns-then-says_little c =
-    let none = none_wrong c.args.bounds.now c.args.columns.now (c.says_little.ensures c.if-says_little.true) in
+    let none = none_wrong c.args.bounds.now c.args.columns.now.all.now (c.says_little.ensures c.if-says_little.true) in
     sym (ap (λ (fs : List Flaw). c.args.flaws.now.items ++ fs) none ∙ append-nil c.args.flaws.now.items)

@@ -1,16 +1,34 @@
-use Rattle.std.proofs.Common.{List, subst, ◌∙◌}
+use Rattle.std.proofs.Common.{◌≡◌, ◌∙◌, ℕ, ℤ, List, ap, subst, sym}
 use Rattle.contract_words.specs.Outcome.{Gives}
 use Rattle.ice_manifest_fields.specs.declared.fault.ManifestFault.TheVariants.{Memory}
 use Rattle.ice_manifest_reading.specs.Manifests.{live_of}
 use Rattle.ice_manifest_reading.specs.Telling.{told_of}
+use Rattle.ice_manifest_reading.specs.declared.entry.Live.{Live}
+use Rattle.ice_manifest_reading.specs.declared.row.Row.{Row}
 use Rattle.icescan_audit_findings.specs.Examining.{examined}
+use Rattle.icescan_audit_findings.specs.Places.{HasPlaces}
+use Rattle.icescan_audit_findings.specs.declared.basis.TypedColumn.{TypedColumn}
+use Rattle.icescan_audit_findings.specs.declared.basis.Basis.{Basis}
+use Rattle.icescan_audit_findings.specs.declared.examined.Examined.{Examined}
 use Rattle.icescan_audit_findings.specs.declared.limits.FieldLimits.{FieldLimits}
 use Rattle.icescan_audit_findings.proofs.examined.examine.Goals as goal
 
 pub returns-clause-told : goal.returns-clause-told
 returns-clause-told c =
+    let basis = c.args.basis.now in
     let row = c.args.row.now in
     let read = live_of row c.args.spec.now c.args.bytes.now in
-    subst (λ (limits : List FieldLimits). Gives Memory (λ found. found.told.items) c.read_tallied.result
-    (told_of (examined c.args.basis.now row limits) read)) (c.as_slice-2.ensures.value ∙ c.in_ok-limits.ensures)
+    let against = c.held_against-against.result in
+    let held = c.held_against-against.ensures in
+    let limits = held.limits ∙ c.as_slice-allowed.ensures.value ∙ c.in_ok-limits.ensures in
+    let same = ap (λ (b : Basis). examined b against.row.now against.limits.now) held.basis
+    ∙ ap (λ (r : Row). examined basis r against.limits.now) held.row
+    ∙ ap (λ (ls : List FieldLimits). examined basis row ls) limits in
+    subst (λ (f : Live → Examined). Gives Memory (λ found. found.told.items) c.read_tallied.result (told_of f read)) same
     c.read_tallied.ensures.told
+
+pub held_against-against-requires-clause-places : goal.held_against-against-requires-clause-places
+held_against-against-requires-clause-places c =
+    subst (λ (places : List (ℤ × ℕ)). HasPlaces c.args.basis.now.typed places) (sym c.as_slice-4.ensures.value)
+    (subst (λ (columns : List TypedColumn). HasPlaces columns c.in_ok-by_id.by_id.items) c.as_slice-2.ensures
+    c.in_ok-by_id.ensures)
