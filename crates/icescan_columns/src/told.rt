@@ -2,7 +2,6 @@
 
 ghost use Rattle.std.specs.Prelude.{◌≡◌, IfOk, map};
 ghost use Rattle.serde_json.specs.View.{view};
-ghost use Rattle.ice_filter.specs.Binding.{is_comparable, is_uuid};
 ghost use Rattle.icescan_columns.specs.JsonTypes.{seen};
 ghost use Rattle.icescan_columns.specs.Told.{compared_type, how_compared, told_column, told_columns, type_word};
 
@@ -40,30 +39,17 @@ pub struct ToldColumn {
     pub names: Option<Names>,
 }
 
-/// Whether a filter compares values of the type.
-fn is_comparable(column_type: ColumnType) -> bool
-    ensures { result ≡ is_comparable column_type }
-{
-    !matches!(
-        column_type,
-        ColumnType::Float | ColumnType::Double | ColumnType::Decimal { .. }
-    )
-}
-
-fn is_uuid(column_type: ColumnType) -> bool
-    ensures { result ≡ is_uuid column_type }
-{
-    matches!(column_type, ColumnType::Uuid)
-}
-
 /// How a filter may compare values of a type.
 fn compared_type(column_type: Option<ColumnType>) -> Compared
     ensures { result ≡ compared_type column_type }
 {
+    let Some(column_type) = column_type else {
+        return Compared::Never;
+    };
     match column_type {
-        Some(column_type) if is_uuid(column_type) => Compared::ForEquality,
-        Some(column_type) if is_comparable(column_type) => Compared::InOrder,
-        _ => Compared::Never,
+        ColumnType::Float | ColumnType::Double | ColumnType::Decimal { .. } => Compared::Never,
+        ColumnType::Uuid => Compared::ForEquality,
+        _ => Compared::InOrder,
     }
 }
 
