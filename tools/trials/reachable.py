@@ -1,17 +1,18 @@
 #!/usr/bin/env python3
 """reachable.py PROGRAM..: random tables, the files that `reachable` says they need, and those that `orphans` names.
 
-PROGRAM is the built icescan, or words that run it. Each of 300 tables is made in a new folder by random appends and
-row deltas; between them manifests are rewritten, by a snapshot whose manifests have some files deleted (entries of
-status 2) and whose list may say other lengths of the manifests that it shares, and snapshots expire. What `reachable`
-prints, also as JSON, has to be what this script finds by reading the metadata and every manifest list and manifest by
-itself; so what `--only` and `--without` some of the snapshots print, which together have each file once. Below the
-folder stand files that the table needs, and others, old and young, some of which are named as one of these may be
-spelled; what `orphans` prints of them has to be what this script finds. Of each table a manifest is then taken away,
-cut or named as compressed, and nothing may be printed. Then commits are made beside `orphans`, 20 times, which may name
-none of their files. `reachable.py --tell FOLDER PREFIX METADATA [IDS]` prints what the script finds, without the
-snapshots of these ids; `--tell-only` with them what is left; `reachable.py --tell-orphans FOLDER PREFIX METADATA N` the
-files that are not needed. The last line counts; the status is 1 where something differs."""
+PROGRAM is the built icescan, or words that run it. Each of 300 tables is made in a new folder by random appends and row
+deltas; between them manifests are rewritten, by a snapshot whose manifests have some files deleted (entries of status
+2) and whose list may say other lengths of the manifests that it shares, and snapshots expire. What `reachable` prints,
+also as JSON, has to be what this script finds by reading the metadata and every manifest list and manifest by itself;
+so what `--only` and `--without` some of the snapshots print, which together have each file once. Below the folder stand
+files that the table needs, and others, old and young, some of which are named as one of these may be spelled; what
+`orphans` prints of them has to be what this script finds. Each file that a plan of some snapshot names, under no filter
+or under one, has to be among those that `reachable` prints. Of each table a manifest is then taken away, cut or named
+as compressed, and nothing may be printed. Then commits are made beside `orphans`, 20 times, which may name none of
+their files. `reachable.py --tell FOLDER PREFIX METADATA [IDS]` prints what the script finds, without the snapshots of
+these ids; `--tell-only` with them what is left; `reachable.py --tell-orphans FOLDER PREFIX METADATA N` the files that
+are not needed. The last line counts; the status is 1 where something differs."""
 import json
 import os
 import random
@@ -316,7 +317,6 @@ class Table:
             metadata[self.rng.choice(["statistics", "partition-statistics"])] = files
         self.put(metadata)
 
-
     def ids(self):
         return [snapshot["snapshot-id"] for snapshot in self.metadata()["snapshots"]]
 
@@ -361,6 +361,18 @@ def answers(table):
     yield objects, objects_of(strays(read, path, table.folder, PREFIX, OLDER_THAN_MS))
 
 
+def named_by_plans(table):
+    """The lines of the files that plans of the snapshots name."""
+    for number in table.ids():
+        for words in ([], ["--filter", "c = 1"]):
+            got = table.run("plan", "--snapshot", str(number), *words, table.path())
+            assert got.returncode == 0, got
+            for line in got.stdout.split(b"\n"):
+                kind, _, rest = line.strip().partition(b" ")
+                if kind in (b"data", b"pos", b"eq"):
+                    yield (b"data " if kind == b"data" else b"delete ") + rest.split(b" ")[0]
+
+
 def refusals(table):
     """What is asked of a table with a manifest at fault, with the status that it ends with."""
     ids = ",".join(map(str, table.ids()))
@@ -373,6 +385,10 @@ def wrong_with(table):
     for got, expected in answers(table):
         if (got.returncode, got.stdout, got.stderr) != (0, expected, b""):
             return "%r\nnot\n%s" % (got, expected.decode())
+    lines = table.run("reachable", table.path()).stdout.split(b"\n")
+    for line in named_by_plans(table):
+        if line not in lines:
+            return "a plan names %r" % line
     for option, status in (("--only=999", 1), ("--without=1,999", 1), ("--only=1,,2", 2), ("--without=01", 2)):
         got = table.run("reachable", option, table.path())
         if got.returncode != status or got.stdout or not got.stderr:

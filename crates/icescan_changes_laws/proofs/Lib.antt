@@ -1,0 +1,2 @@
+mod LeavingOut
+mod SomeRows

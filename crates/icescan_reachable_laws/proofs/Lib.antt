@@ -1,0 +1,5 @@
+mod Bare
+mod Entries
+mod Given
+mod Planned
+mod Selected
