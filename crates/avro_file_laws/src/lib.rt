@@ -1,8 +1,6 @@
 //! Laws on reading Avro container files: what is given before a fault, and where each fault stands.
 #![tactic(auto)]
 
-mod calls;
 mod laws;
 
-pub use calls::{next, next_with, open};
 pub use laws::{each_fault_stands_where_it_is, the_longest_front_is_given};

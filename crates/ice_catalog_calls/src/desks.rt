@@ -1,13 +1,16 @@
-//! The step by which a desk's ticket is drawn.
+//! The step by which a desk's ticket is drawn, and plans by a desk's workers.
 
-ghost use Rattle.std.specs.Prelude.{◌≡◌, ◌≤◌, ◌+◌, ◌%◌, ◌^◌};
+ghost use Rattle.std.specs.Prelude.{◌≡◌, ◌≤◌, ◌+◌, ◌%◌, ◌^◌, ℕ, List, None, IsErrOf, length};
 ghost use mathlib.Core.Option.{none};
 ghost use Rattle.atomic_table.specs.Table.{Allows, step};
 ghost use Rattle.ice_desk.specs.Tickets.{Draws, IsKept, drawing};
+ghost use Rattle.ice_desk.specs.Worlds.{HasAt};
 
 use atomic_table::{Play, Seat as Place, Table};
-use ice_desk::{Hand, Size, Tickets};
+use ice_desk::{Files, Gate, Hand, PlanFault, Size, Tickets};
+use ice_state::{OwnedPlan, Scan};
 use std::alloc::Global;
+use std::thread::Threads;
 
 /// A draw.
 pub struct Draw;
@@ -31,4 +34,19 @@ pub fn draw_ticket(
     ensures { place.new.me.0 ≡ drawing place.old.me.0 result }
 {
     table.shared.fetch_add::<Draw>(place, 0, 1)
+}
+
+/// The plan of a scan by so many workers.
+pub fn plan_scan<R: Threads + Sync, F: Files + Sync, G: Gate + Sync>(
+    rt: &R,
+    alloc: Global,
+    files: &F,
+    scan: &Scan,
+    workers: usize,
+    gate: &G,
+) -> Result<OwnedPlan, PlanFault>
+    requires { length scan.now.wanted ≤ 65536 }
+    ensures { (path : List ℕ) → IsErrOf result (PlanFault.Absent path) → HasAt (F.world files.now) path None }
+{
+    ice_desk::plan_scan(rt, alloc, files, scan, workers, gate)
 }

@@ -4,7 +4,6 @@ ghost use Rattle.std.specs.Prelude.{◌≡◌, [], IfOk};
 
 mod machine;
 mod seats;
-mod threads;
 
 use contract_words::{Items, Text};
 use ice_catalog::{Change, Ids, NewFile, PrepareFault, Prepared, Version, World, prepare};

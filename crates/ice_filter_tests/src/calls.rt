@@ -1,16 +1,65 @@
 //! Public calls once more, each under the one clause that its wrong implementations turn, so that the gate can try these
 //! cheaply.
 
-ghost use Rattle.std.specs.Prelude.{◌≡◌, IfOk};
+ghost use Rattle.std.specs.Prelude.{◌≡◌, IfOk, Some};
+ghost use Rattle.contract_words.specs.Outcome.{Gives};
+ghost use Rattle.ice_filter.specs.Binding.{bound_parts};
+ghost use Rattle.ice_filter.specs.Parsing.{filter_of};
+ghost use Rattle.ice_filter.specs.Trees.{tree_of};
+ghost use Rattle.ice_meta.specs.Partitioning.{is_unpartitioned};
+ghost use Rattle.ice_meta.specs.Targets.{described, metadata_of, resolved, schema_for};
 ghost use Rattle.ice_project.specs.Projection.{projection};
 ghost use Rattle.ice_project.specs.Summaries.{summaries_may};
 ghost use Rattle.ice_project.specs.Tuples.{part_meets};
 
-use ice_filter::Bound;
-use ice_meta::Spec;
+use ice_filter::{Bound, Filter, FilterFault};
+use ice_meta::{MetaFault, Metadata, Schema, Spec, Target};
 use ice_project::PartFilter;
 use ice_value::{Cell, Summary};
 use std::alloc::{AllocError, Global};
+
+/// Reads metadata, or answers its first fault.
+pub fn read(alloc: Global, bytes: &[u8]) -> Result<Metadata, MetaFault>
+    ensures { Gives MetaFault.Memory (λ metadata. described metadata.json metadata.table) result
+        (metadata_of bytes.now) }
+{
+    Metadata::read(alloc, bytes)
+}
+
+/// The id of the snapshot that is asked for.
+pub fn resolve(metadata: &Metadata, target: &Target) -> Result<i64, MetaFault>
+    ensures { result ≡ resolved target.now metadata.now.table }
+{
+    metadata.resolve(target)
+}
+
+/// The schema that filters of the target are bound to.
+pub fn schema_for<'a>(metadata: &'a Metadata, target: &Target) -> &'a Schema
+    ensures { Some result.now ≡ schema_for target.now metadata.now.table }
+{
+    metadata.schema_for(target)
+}
+
+/// Whether the spec has no field but void ones.
+pub fn is_unpartitioned(spec: &Spec) -> bool
+    ensures { result ≡ is_unpartitioned spec.now }
+{
+    spec.is_unpartitioned()
+}
+
+/// The filter of a text.
+pub fn parse(alloc: Global, text: &str) -> Result<Filter, FilterFault>
+    ensures { Gives FilterFault.Memory (λ f. tree_of f) result (filter_of text.now) }
+{
+    ice_filter::parse(alloc, text)
+}
+
+/// The filter over the columns of a schema.
+pub fn bind(alloc: Global, filter: &Filter, schema: &Schema) -> Result<Bound, FilterFault>
+    ensures { Gives FilterFault.Memory (λ b. b.parts) result (bound_parts schema.now filter.now) }
+{
+    ice_filter::bind(alloc, filter, schema)
+}
 
 /// The filter on partition values that every file with a matching row meets.
 pub fn project(alloc: Global, filter: &Bound, spec: &Spec) -> Result<PartFilter, AllocError>

@@ -14,4 +14,6 @@ mod metadata;
 #[cfg(test)]
 mod projections;
 
-pub use calls::{meets, project, summary_may};
+pub use calls::{
+    bind, is_unpartitioned, meets, parse, project, read, resolve, schema_for, summary_may,
+};

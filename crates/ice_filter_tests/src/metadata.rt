@@ -41,29 +41,18 @@ const PLAIN_SORTED: &str =
 1709597040000,"location":"s3://warehouse/db/plain","metadata-log":[{"metadata-file":
 "s3://warehouse/db/plain/metadata/00000-aaaaaaaa-0000-4000-8000-000000000000.metadata.json","timestamp-ms":
 1709596795000}],"partition-specs":[{"fields":[],"spec-id":0}],"partition-statistics":[],"properties":{
-"commit.retry.num-retries":"4","owner":"root","write.avro.compression-codec":"uncompressed","write.format.default":
-"parquet"},"refs":{"audit":{"min-snapshots-to-keep":3,"snapshot-id":5093156774740809081,"type":"branch"},"main":{
-"snapshot-id":5787346651261761729,"type":"branch"},"v1":{"max-ref-age-ms":604800000,"snapshot-id":5974787585992374985,
-"type":"tag"}},"schemas":[{"fields":[{"id":1,"name":"id","required":true,"type":"long"},{"doc":"a text","id":2,"name":
-"data","required":false,"type":"string"}],"identifier-field-ids":[1],"schema-id":0,"type":"struct"}],"snapshot-log":[{
-"snapshot-id":4517289035762340017,"timestamp-ms":1709596800000},{"snapshot-id":5974787585992374985,"timestamp-ms":
-1709596860000},{"snapshot-id":2283605302977256481,"timestamp-ms":1709596920000},{"snapshot-id":5093156774740809081,
-"timestamp-ms":1709596980000},{"snapshot-id":5787346651261761729,"timestamp-ms":1709597040000}],"snapshots":[{
-"manifest-list":
-"s3://warehouse/db/plain/metadata/snap-4517289035762340017-1-2f7d8596-5137-7e43-db3f-8b4c4ac6aeed.avro","schema-id":0,
-"sequence-number":1,"snapshot-id":4517289035762340017,"summary":{"engine-name":"spark","engine-version":"3.5.1",
-"iceberg-version":"Apache Iceberg 1.5.2 (commit cbb853073e681b4075d7c8707610dceecbee3a82)","operation":"append",
-"total-data-files":"12"},"timestamp-ms":1709596800000},{"manifest-list":
+"commit.retry.num-retries":"4","owner":"root","write.avro.compression-codec":"uncompressed",
+"write.format.default":"parquet"},"refs":{"audit":{"min-snapshots-to-keep":3,"snapshot-id":5093156774740809081,
+"type":"branch"},"main":{"snapshot-id":5787346651261761729,"type":"branch"},"v1":{"max-ref-age-ms":604800000,
+"snapshot-id":5974787585992374985,"type":"tag"}},"schemas":[{"fields":[{"id":1,"name":"id","required":true,
+"type":"long"},{"doc":"a text","id":2,"name":"data","required":false,"type":"string"}],"identifier-field-ids":[1],
+"schema-id":0,"type":"struct"}],"snapshot-log":[{"snapshot-id":5093156774740809081,"timestamp-ms":1709596980000},
+{"snapshot-id":5787346651261761729,"timestamp-ms":1709597040000}],"snapshots":[{"manifest-list":
 "s3://warehouse/db/plain/metadata/snap-5974787585992374985-1-e045cf97-bfe5-19e7-2c68-c84fc5e1236c.avro",
 "parent-snapshot-id":4517289035762340017,"schema-id":0,"sequence-number":2,"snapshot-id":5974787585992374985,
 "summary":{"engine-name":"spark","engine-version":"3.5.1","iceberg-version":
 "Apache Iceberg 1.5.2 (commit cbb853073e681b4075d7c8707610dceecbee3a82)","operation":"append","total-data-files":
 "21"},"timestamp-ms":1709596860000},{"manifest-list":
-"s3://warehouse/db/plain/metadata/snap-2283605302977256481-1-26e43dfa-7aba-760e-9b91-8dc4a563031a.avro",
-"parent-snapshot-id":5974787585992374985,"schema-id":0,"sequence-number":3,"snapshot-id":2283605302977256481,
-"summary":{"engine-name":"spark","engine-version":"3.5.1","iceberg-version":
-"Apache Iceberg 1.5.2 (commit cbb853073e681b4075d7c8707610dceecbee3a82)","operation":"overwrite","total-data-files":
-"24"},"timestamp-ms":1709596920000},{"manifest-list":
 "s3://warehouse/db/plain/metadata/snap-5093156774740809081-1-24709399-a8be-2adf-c25d-ce3b7e137ea5.avro",
 "parent-snapshot-id":2283605302977256481,"schema-id":0,"sequence-number":4,"snapshot-id":5093156774740809081,
 "summary":{"engine-name":"spark","engine-version":"3.5.1","iceberg-version":
@@ -72,11 +61,11 @@ const PLAIN_SORTED: &str =
 "s3://warehouse/db/plain/metadata/snap-5787346651261761729-1-2833c2eb-01d6-02bb-4299-f66acae4221d.avro",
 "parent-snapshot-id":5093156774740809081,"schema-id":0,"sequence-number":5,"snapshot-id":5787346651261761729,
 "summary":{"engine-name":"spark","engine-version":"3.5.1","iceberg-version":
-"Apache Iceberg 1.5.2 (commit cbb853073e681b4075d7c8707610dceecbee3a82)","operation":"overwrite","total-data-files":
-"35"},"timestamp-ms":1709597040000}],"sort-orders":[{"fields":[],"order-id":0},{"fields":[{"direction":"asc",
-"null-order":"nulls-first","source-id":1,"transform":"identity"}],"order-id":1}],"statistics":[{"blob-metadata":[{
-"fields":[1],"properties":{"ndv":"12"},"sequence-number":5,"snapshot-id":5787346651261761729,"type":
-"apache-datasketches-theta-v1"}],"file-footer-size-in-bytes":42,"file-size-in-bytes":413,"snapshot-id":
+"Apache Iceberg 1.5.2 (commit cbb853073e681b4075d7c8707610dceecbee3a82)","operation":"overwrite",
+"total-data-files":"35"},"timestamp-ms":1709597040000}],"sort-orders":[{"fields":[],"order-id":0},{"fields":[{
+"direction":"asc","null-order":"nulls-first","source-id":1,"transform":"identity"}],"order-id":1}],"statistics":
+[{"blob-metadata":[{"fields":[1],"properties":{"ndv":"12"},"sequence-number":5,"snapshot-id":5787346651261761729,
+"type":"apache-datasketches-theta-v1"}],"file-footer-size-in-bytes":42,"file-size-in-bytes":413,"snapshot-id":
 5787346651261761729,"statistics-path":"s3://warehouse/db/plain/metadata/s.stats"}],"table-uuid":
 "ac7938d4-0cfc-2307-e2bf-325d28e7884e"}"#;
 
@@ -87,7 +76,7 @@ append 7 has "last-sequence-number":6,"last-updated-ms":5,
 append 7 has "refs":{"audit":{"min-snapshots-to-keep":3,"snapshot-id":5093156774740809081,"type":"branch"},"main":{"snapshot-id":7,"type":"branch"},"v1":{
 append 7 has "timestamp-ms":1709597040000},{"snapshot-id":7,"timestamp-ms":5}],"snapshots":[
 append 7 has ,{"manifest-list":"mem://t/list","parent-snapshot-id":5787346651261761729,"schema-id":0,"sequence-number":6,"snapshot-id":7,"summary":{"operation":"append"},"timestamp-ms":5}],"sort-orders":[
-append 2283605302977256481 = IdTwice(2283605302977256481)"#;
+append 5974787585992374985 = IdTwice(5974787585992374985)"#;
 
 #[test]
 fn file_of_another_writer(rt: HostRuntime) {
@@ -99,11 +88,11 @@ fn file_of_another_writer(rt: HostRuntime) {
 const FIRST: &str =
     r#"append 7 = {"current-schema-id":0,"current-snapshot-id":7,"default-spec-id":0,"format-version":2,
 "last-column-id":1,"last-partition-id":999,"last-sequence-number":1,"last-updated-ms":5,"location":"mem://t",
-"partition-specs":[{"fields":[],"spec-id":0}],"refs":{"main":{"snapshot-id":7,"type":"branch"}},
-"schemas":[{"fields":[{"id":1,"name":"c","required":false,"type":"int"}],"schema-id":0,"type":"struct"}],
-"snapshot-log":[{"snapshot-id":7,"timestamp-ms":5}],
-"snapshots":[{"manifest-list":"mem://t/list","schema-id":0,"sequence-number":1,"snapshot-id":7,
-"summary":{"operation":"append"},"timestamp-ms":5}],"table-uuid":"f79c3e09-677c-4bbd-a479-3f349cb785e7"}"#;
+"partition-specs":[{"fields":[],"spec-id":0}],"refs":{"main":{"snapshot-id":7,"type":"branch"}},"schemas":[{
+"fields":[{"id":1,"name":"c","required":false,"type":"int"}],"schema-id":0,"type":"struct"}],"snapshot-log":[{
+"snapshot-id":7,"timestamp-ms":5}],"snapshots":[{"manifest-list":"mem://t/list","schema-id":0,"sequence-number":
+1,"snapshot-id":7,"summary":{"operation":"append"},"timestamp-ms":5}],"table-uuid":
+"f79c3e09-677c-4bbd-a479-3f349cb785e7"}"#;
 
 #[test]
 fn first_snapshot(rt: HostRuntime) {

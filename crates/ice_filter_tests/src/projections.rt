@@ -8,127 +8,62 @@ use ice_meta::{PartitionField, Spec};
 use ice_project::{PartFilter, project};
 use ice_value::{Cell, ColumnType};
 use std::alloc::{AllocError, Global};
+use std::process::Abort;
 
-/// A predicate without a test, which every partition value meets.
-const TRUE: &str = "[Predicate(Items { items: [] })]";
+// Each line: a transform, the column's type, a filter, and what its projection has in it. A predicate without tests is
+// one that every partition value meets.
 
-/// A transform, the column's type, a filter, and what its projection has in it.
-const PROJECTED: &[(&str, ColumnType, &str, &str)] = &[
-    // numbers are rounded down to tens
-    (
-        "truncate[10]",
-        ColumnType::Int,
-        "c < 10",
-        "test: AtMost(Whole(0))",
-    ),
-    (
-        "truncate[10]",
-        ColumnType::Int,
-        "c <= 10",
-        "test: AtMost(Whole(10))",
-    ),
-    (
-        "truncate[10]",
-        ColumnType::Int,
-        "c > 9",
-        "test: AtLeast(Whole(10))",
-    ),
-    (
-        "truncate[10]",
-        ColumnType::Int,
-        "c > 5",
-        "test: AtLeast(Whole(0))",
-    ),
-    (
-        "truncate[10]",
-        ColumnType::Int,
-        "c = -1",
-        "test: Among(Items { items: [Whole(-10)] })",
-    ),
-    ("truncate[10]", ColumnType::Int, "c != 5", TRUE),
-    ("truncate[10]", ColumnType::Int, "c <= -2147483648", TRUE),
-    (
-        "truncate[10]",
-        ColumnType::Long,
-        "c < -2147483648",
-        "test: AtMost(Whole(-2147483650))",
-    ),
-    // texts are cut to three characters
-    (
-        "truncate[3]",
-        ColumnType::String,
-        "c < 'iceberg'",
-        "test: AtMost(Text(Text { text: \"ice\" }))",
-    ),
-    (
-        "truncate[3]",
-        ColumnType::String,
-        "c starts with 'ic'",
-        "test: StartsWith(Text { text: \"ic\" })",
-    ),
-    (
-        "truncate[3]",
-        ColumnType::String,
-        "c starts with 'éééé'",
-        "test: Among(Items { items: [Text(Text { text: \"ééé\" })] })",
-    ),
-    (
-        "truncate[2]",
-        ColumnType::Binary,
-        "c > x'010203'",
-        "test: AtLeast(Bytes(Items { items: [1, 2] }))",
-    ),
-    // units of 2017-11-16T22:31:08 and of the microsecond before 1970
-    (
-        "year",
-        ColumnType::Timestamptz,
-        "c <= 1510871468000000",
-        "test: AtMost(Whole(47))",
-    ),
-    (
-        "month",
-        ColumnType::Timestamptz,
-        "c >= 1510871468000000",
-        "test: AtLeast(Whole(574))",
-    ),
-    (
-        "day",
-        ColumnType::Timestamptz,
-        "c = 1510871468000000",
-        "test: Among(Items { items: [Whole(17486)] })",
-    ),
-    (
-        "hour",
-        ColumnType::Timestamptz,
-        "c < 0",
-        "test: AtMost(Whole(-1))",
-    ),
-    (
-        "hour",
-        ColumnType::Timestamp,
-        "c = 9223372036854775807",
-        TRUE,
-    ),
-    // 2017239379, the hash of 34, has the remainder 3 by 16
-    (
-        "bucket[16]",
-        ColumnType::Long,
-        "c = 34",
-        "test: Among(Items { items: [Whole(3)] })",
-    ),
-    ("bucket[16]", ColumnType::Long, "c < 34", TRUE),
-    ("bucket[16]", ColumnType::Long, "c is null", "test: IsNull"),
-    // the value itself, and transforms that say nothing of it
-    (
-        "identity",
-        ColumnType::Int,
-        "c != 9",
-        "test: NotAmong(Items { items: [Whole(9)] })",
-    ),
-    ("void", ColumnType::Int, "c = 7", TRUE),
-    ("zorder", ColumnType::Int, "c = 7", TRUE),
-    ("hour", ColumnType::Date, "c = 7", TRUE),
-];
+/// Numbers are rounded down to tens.
+const TENS: &str = "\
+truncate[10] of int: c < 10 => test: AtMost(Whole(0))
+truncate[10] of int: c <= 10 => test: AtMost(Whole(10))
+truncate[10] of int: c > 9 => test: AtLeast(Whole(10))
+truncate[10] of int: c > 5 => test: AtLeast(Whole(0))
+truncate[10] of int: c = -1 => test: Among(Items { items: [Whole(-10)] })
+truncate[10] of int: c != 5 => [Predicate(Items { items: [] })]
+truncate[10] of int: c <= -2147483648 => [Predicate(Items { items: [] })]
+truncate[10] of long: c < -2147483648 => test: AtMost(Whole(-2147483650))";
+
+/// Texts are cut to three characters, and byte strings to two bytes.
+const CUT: &str =
+    r#"truncate[3] of string: c < 'iceberg' => test: AtMost(Text(Text { text: "ice" }))
+truncate[3] of string: c starts with 'ic' => test: StartsWith(Text { text: "ic" })
+truncate[3] of string: c starts with 'éééé' => test: Among(Items { items: [Text(Text { text: "ééé" })] })
+truncate[2] of binary: c > x'010203' => test: AtLeast(Bytes(Items { items: [1, 2] }))"#;
+
+/// Units of 2017-11-16T22:31:08 and of the microsecond before 1970.
+const UNITS: &str = "\
+year of timestamptz: c <= 1510871468000000 => test: AtMost(Whole(47))
+month of timestamptz: c >= 1510871468000000 => test: AtLeast(Whole(574))
+day of timestamptz: c = 1510871468000000 => test: Among(Items { items: [Whole(17486)] })
+hour of timestamptz: c < 0 => test: AtMost(Whole(-1))
+hour of timestamp: c = 9223372036854775807 => [Predicate(Items { items: [] })]";
+
+/// 2017239379, the hash of 34, has the remainder 3 by 16.
+const BUCKETS: &str = "\
+bucket[16] of long: c = 34 => test: Among(Items { items: [Whole(3)] })
+bucket[16] of long: c < 34 => [Predicate(Items { items: [] })]
+bucket[16] of long: c is null => test: IsNull";
+
+/// The value itself, and transforms that say nothing of it.
+const OTHERS: &str = "\
+identity of int: c != 9 => test: NotAmong(Items { items: [Whole(9)] })
+void of int: c = 7 => [Predicate(Items { items: [] })]
+zorder of int: c = 7 => [Predicate(Items { items: [] })]
+hour of date: c = 7 => [Predicate(Items { items: [] })]";
+
+fn type_of(name: &str) -> Option<ColumnType> {
+    match name {
+        "binary" => Some(ColumnType::Binary),
+        "date" => Some(ColumnType::Date),
+        "int" => Some(ColumnType::Int),
+        "long" => Some(ColumnType::Long),
+        "string" => Some(ColumnType::String),
+        "timestamp" => Some(ColumnType::Timestamp),
+        "timestamptz" => Some(ColumnType::Timestamptz),
+        _ => None,
+    }
+}
 
 /// The spec of that field alone.
 fn spec_of(alloc: Global, transform: &str, column_type: ColumnType) -> Result<Spec, AllocError> {
@@ -160,25 +95,30 @@ fn has(alloc: Global, part: &PartFilter, look: &str) -> bool {
     }
 }
 
-/// Whether the projection of a filter has this in it.
-fn projects(
-    alloc: Global,
-    transform: &str,
-    column_type: ColumnType,
-    filter: &str,
-    look: &str,
-) -> Option<bool> {
+/// Whether the projection of a line's filter has in it what the line says.
+fn projects(alloc: Global, line: &str) -> Option<bool> {
+    let (field, case) = line.split_once(": ")?;
+    let (transform, name) = field.split_once(" of ")?;
+    let (filter, look) = case.split_once(" => ")?;
+    let column_type = type_of(name)?;
     let filter = bound(alloc, column_type, filter).ok()?;
     let part = projected(alloc, transform, column_type, &filter).ok()?;
     Some(has(alloc, &part, look))
 }
 
+fn check(rt: &impl Abort, alloc: Global, lines: &str) {
+    for line in lines.lines() {
+        expect(rt, projects(alloc, line) == Some(true), line);
+    }
+}
+
 #[test]
 fn projections(rt: HostRuntime) {
-    for (transform, column_type, filter, look) in PROJECTED {
-        let is_right = projects(rt.alloc(), transform, *column_type, filter, look);
-        expect(&rt, is_right == Some(true), look);
-    }
+    check(&rt, rt.alloc(), TENS);
+    check(&rt, rt.alloc(), CUT);
+    check(&rt, rt.alloc(), UNITS);
+    check(&rt, rt.alloc(), BUCKETS);
+    check(&rt, rt.alloc(), OTHERS);
 }
 
 /// Whether two of these tens meet it, the second and the third.

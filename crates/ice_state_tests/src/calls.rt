@@ -68,6 +68,14 @@ pub fn take_apart(
     state.merge(&other)
 }
 
+/// Takes in what another state took, of which nobody needs more.
+pub fn absorb(state: &mut Partial, other: Partial) -> Result<(), AllocError>
+    requires { length state.old ≡ length other }
+    ensures { OnOk result (state.new ≡ join state.old other) }
+{
+    state.absorb(other)
+}
+
 /// The plan, or what keeps the state from one. Wrong implementations may need memory.
 pub fn into_plan(_alloc: Global, state: Partial, scan: &Scan) -> Result<OwnedPlan, FinishFault>
     requires { IsOf scan.now state }

@@ -13,5 +13,5 @@ mod plans;
 #[cfg(test)]
 mod states;
 
-pub use calls::{into_plan, keeps, lacks_deletes, new, take_apart};
+pub use calls::{absorb, into_plan, keeps, lacks_deletes, new, take_apart};
 pub use entry_calls::{add, add_kept};

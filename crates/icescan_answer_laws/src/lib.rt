@@ -2,11 +2,9 @@
 #![tactic(auto)]
 
 mod answers;
-mod calls;
 mod changes;
 mod given;
 
 pub use answers::{filters_mean_their_texts, what_an_answer_lacks_has_no_match};
-pub use calls::{commit_below, delete_changes, file_fate, is_unchanged, show_below};
 pub use changes::what_changes_leave_out_has_no_match;
 pub use given::{commits_of_a_world, plans_of_a_world};

@@ -9,9 +9,6 @@ ghost use Rattle.ice_meta.specs.declared.metadata.Target.{Target};
 ghost use Rattle.icescan_requests.specs.Plans.{TellsTheTruth, answer, wanted_answer};
 ghost use Rattle.ice_state.specs.Contents.{World};
 
-mod calls;
-
-pub use calls::{audit_file, delete_findings, live_files, row_findings};
 use icescan_audit::audits_tell_of_summaries;
 use icescan_requests::plans_of_true_summaries;
 

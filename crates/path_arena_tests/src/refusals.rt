@@ -4,7 +4,6 @@
 use crate::held::holds;
 use path_arena::{Arena, ArenaFault};
 use std::alloc::{AllocError, Global};
-use std::test::Fail;
 
 const PATHS: [&[u8]; 4] = [b"ab", b"", b"cd", b"s3://a/one"];
 
@@ -32,17 +31,29 @@ fn copied_at_last(arena: &Arena, alloc: Global) -> Result<Arena, AllocError> {
     }
 }
 
-#[test]
-fn a_refused_growth_changes_nothing(rt: HostRuntime) -> Result<(), Fail> {
-    let mut arena = Arena::new(rt.alloc());
-    reserve_at_last(&mut arena, 1, 4)?;
+/// Interns the paths, with too little room for them and with much behind them.
+fn fill(arena: &mut Arena) -> Result<(), ArenaFault> {
+    reserve_at_last(arena, 1, 4)?;
     for path in PATHS {
-        intern_at_last(&mut arena, path)?;
+        intern_at_last(arena, path)?;
     }
-    reserve_at_last(&mut arena, 1_000, 2_000_000)?;
-    let copied = copied_at_last(&arena, rt.alloc())?;
-    assert!(rt; holds(&arena, &PATHS) && holds(&copied, &PATHS));
-    Ok(())
+    reserve_at_last(arena, 1_000, 2_000_000)
+}
+
+/// Whether a copy of the arena has the paths.
+fn copy_holds(arena: &Arena, alloc: Global) -> bool {
+    match copied_at_last(arena, alloc) {
+        Ok(copied) => holds(&copied, &PATHS),
+        Err(_) => false,
+    }
+}
+
+#[test]
+fn a_refused_growth_changes_nothing(rt: HostRuntime) {
+    let mut arena = Arena::new(rt.alloc());
+    let is_filled = fill(&mut arena).is_ok();
+    let is_right = is_filled && holds(&arena, &PATHS) && copy_holds(&arena, rt.alloc());
+    assert!(rt; is_right);
 }
 
 /// A string of 200 bytes. Forty of them take two chunks, and buckets that are made anew again and again.
@@ -52,15 +63,28 @@ fn long_string(number: u8) -> [u8; 200] {
     string
 }
 
-/// Here it is interning that makes the room.
-#[test]
-fn a_refused_intern_changes_nothing(rt: HostRuntime) -> Result<(), Fail> {
-    let mut arena = Arena::new(rt.alloc());
+fn fill_with_long(arena: &mut Arena) -> Result<(), ArenaFault> {
     for number in 0..40u8 {
-        intern_at_last(&mut arena, &long_string(number))?;
-    }
-    for number in 0..40u8 {
-        assert!(rt; arena.intern(&long_string(number))?.place() == number as u32);
+        intern_at_last(arena, &long_string(number))?;
     }
     Ok(())
+}
+
+/// Whether the arena knows the forty long strings by their numbers.
+fn holds_long(arena: &Arena) -> bool {
+    for number in 0..40u8 {
+        match arena.find(&long_string(number)) {
+            Some(id) if id.place() == number as u32 => {}
+            _ => return false,
+        }
+    }
+    true
+}
+
+/// Here it is interning that makes the room.
+#[test]
+fn a_refused_intern_changes_nothing(rt: HostRuntime) {
+    let mut arena = Arena::new(rt.alloc());
+    let is_right = fill_with_long(&mut arena).is_ok() && holds_long(&arena);
+    assert!(rt; is_right);
 }

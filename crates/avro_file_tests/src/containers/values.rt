@@ -10,6 +10,10 @@ const KINDS: &[u8] = b"{\"type\":\"enum\",\"name\":\"e\",\"symbols\":[\"a\",\"b\
 
 const UNION: &[u8] = b"[\"null\",\"long\"]";
 
+const FIXED: &[u8] = b"{\"type\":\"fixed\",\"name\":\"f\",\"size\":2}";
+
+const MAP: &[u8] = b"{\"type\":\"map\",\"values\":\"long\"}";
+
 /// A schema, the content of a block of one object, and what the object looks like, or the fault.
 const VALUES: &[(&[u8], &[u8], &str)] = &[
     (b"\"long\"", b"\x00", "Long(0)"),
@@ -37,11 +41,7 @@ const VALUES: &[(&[u8], &[u8], &str)] = &[
     (b"\"string\"", b"\x04\xc3\xa9", "String(\"é\")"),
     (b"\"string\"", b"\x02\xff", "BadUtf8"),
     (b"\"bytes\"", b"\x02\xff", "Bytes([255])"),
-    (
-        b"{\"type\":\"fixed\",\"name\":\"f\",\"size\":2}",
-        b"\x07\x08",
-        "Fixed([7, 8])",
-    ),
+    (FIXED, b"\x07\x08", "Fixed([7, 8])"),
     (b"\"float\"", b"\x00\x00\x80\x3f", "Float([0, 0, 128, 63])"),
     (
         b"\"double\"",
@@ -57,11 +57,7 @@ const VALUES: &[(&[u8], &[u8], &str)] = &[
         b"\x02\x06\x01\x02\x36\x00",
         "Array([Long(3), Long(27)])",
     ),
-    (
-        b"{\"type\":\"map\",\"values\":\"long\"}",
-        b"\x02\x02k\x06\x00",
-        "Map([(\"k\", Long(3))])",
-    ),
+    (MAP, b"\x02\x02k\x06\x00", "Map([(\"k\", Long(3))])"),
     // items that take no bytes: the most that may be, and one more
     (
         NULLS,

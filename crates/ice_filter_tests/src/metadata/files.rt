@@ -20,7 +20,8 @@ pub const UPGRADED: &str =
 {"snapshot-id": 8, "parent-snapshot-id": 7, "sequence-number": 1, "timestamp-ms": 9, "manifest-list": "mem://t/l8"}],
 "refs": {"old": {"snapshot-id": 7, "type": "tag"}}}"#;
 
-/// A table whose schema and partition spec changed, with a tag and a second branch.
+/// A table whose schema and partition spec changed, with a tag and a second branch. The snapshots that none of them
+/// names have expired.
 pub const EVENTS: &str =
     r#"{"format-version":2,"table-uuid":"f4c9385f-1902-f733-4b00-b9b4ecd164de","location":"s3://warehouse/db/events",
 "last-sequence-number":8,"last-updated-ms":1709622000000,"last-column-id":16,"current-schema-id":1,"schemas":[{
@@ -48,35 +49,15 @@ false,"type":{"type":"struct","fields":[{"id":6,"name":"lat","required":false,"t
 "nulls-first"}]}],"properties":{"owner":"root","write.format.default":"parquet","write.avro.compression-codec":
 "uncompressed","commit.retry.num-retries":"4"},"current-snapshot-id":7559570768388442785,"refs":{"main":{
 "snapshot-id":7559570768388442785,"type":"branch"},"eoy":{"snapshot-id":1918045885104987393,"type":"tag"},"wap":
-{"snapshot-id":7848602913725974121,"type":"branch"}},"snapshots":[{"sequence-number":1,"snapshot-id":
-6860534835348719321,"timestamp-ms":1709596800000,"summary":{"operation":"append","engine-name":"spark",
-"engine-version":"3.5.1","iceberg-version":
+{"snapshot-id":7848602913725974121,"type":"branch"}},"snapshots":[{"sequence-number":3,"snapshot-id":
+1918045885104987393,"parent-snapshot-id":2343321149856230009,"timestamp-ms":1709604000000,"summary":{"operation":
+"delete","engine-name":"spark","engine-version":"3.5.1","iceberg-version":
 "Apache Iceberg 1.5.2 (commit cbb853073e681b4075d7c8707610dceecbee3a82)"},"manifest-list":
-"s3://warehouse/db/events/metadata/snap-6860534835348719321-1-362a4083-8690-c77b-4fed-360abaffdb50.avro",
-"schema-id":0},{"sequence-number":2,"snapshot-id":2343321149856230009,"parent-snapshot-id":6860534835348719321,
-"timestamp-ms":1709600400000,"summary":{"operation":"append","engine-name":"spark","engine-version":"3.5.1",
-"iceberg-version":"Apache Iceberg 1.5.2 (commit cbb853073e681b4075d7c8707610dceecbee3a82)"},"manifest-list":
-"s3://warehouse/db/events/metadata/snap-2343321149856230009-1-7d5ffc6c-9641-6a7e-5f8e-42f9d29cb4e9.avro",
-"schema-id":0},{"sequence-number":3,"snapshot-id":1918045885104987393,"parent-snapshot-id":2343321149856230009,
-"timestamp-ms":1709604000000,"summary":{"operation":"delete","engine-name":"spark","engine-version":"3.5.1",
-"iceberg-version":"Apache Iceberg 1.5.2 (commit cbb853073e681b4075d7c8707610dceecbee3a82)"},"manifest-list":
 "s3://warehouse/db/events/metadata/snap-1918045885104987393-1-fa22a9ed-354d-37e5-d1d4-0246124590b2.avro",
-"schema-id":0},{"sequence-number":4,"snapshot-id":4086661043878124345,"parent-snapshot-id":1918045885104987393,
-"timestamp-ms":1709607600000,"summary":{"operation":"append","engine-name":"spark","engine-version":"3.5.1",
-"iceberg-version":"Apache Iceberg 1.5.2 (commit cbb853073e681b4075d7c8707610dceecbee3a82)"},"manifest-list":
-"s3://warehouse/db/events/metadata/snap-4086661043878124345-1-1ca72ca4-f962-aff4-91e5-74384e2770d3.avro",
-"schema-id":1},{"sequence-number":5,"snapshot-id":27284459368031241,"parent-snapshot-id":4086661043878124345,
-"timestamp-ms":1709611200000,"summary":{"operation":"overwrite","engine-name":"spark","engine-version":"3.5.1",
-"iceberg-version":"Apache Iceberg 1.5.2 (commit cbb853073e681b4075d7c8707610dceecbee3a82)"},"manifest-list":
-"s3://warehouse/db/events/metadata/snap-27284459368031241-1-c29d9cd7-e511-8dfd-e475-c9f8801ad689.avro",
-"schema-id":1},{"sequence-number":6,"snapshot-id":7848602913725974121,"parent-snapshot-id":27284459368031241,
+"schema-id":0},{"sequence-number":6,"snapshot-id":7848602913725974121,"parent-snapshot-id":27284459368031241,
 "timestamp-ms":1709614800000,"summary":{"operation":"replace","engine-name":"spark","engine-version":"3.5.1",
 "iceberg-version":"Apache Iceberg 1.5.2 (commit cbb853073e681b4075d7c8707610dceecbee3a82)"},"manifest-list":
 "s3://warehouse/db/events/metadata/snap-7848602913725974121-1-ceaa6c02-bc76-135b-ac8e-bfaf4b518e7b.avro",
-"schema-id":1},{"sequence-number":7,"snapshot-id":3880573468301812713,"parent-snapshot-id":7848602913725974121,
-"timestamp-ms":1709618400000,"summary":{"operation":"delete","engine-name":"spark","engine-version":"3.5.1",
-"iceberg-version":"Apache Iceberg 1.5.2 (commit cbb853073e681b4075d7c8707610dceecbee3a82)"},"manifest-list":
-"s3://warehouse/db/events/metadata/snap-3880573468301812713-1-92870290-3cd0-5bf5-9522-ef83fae5e8b6.avro",
 "schema-id":1},{"sequence-number":8,"snapshot-id":7559570768388442785,"parent-snapshot-id":3880573468301812713,
 "timestamp-ms":1709622000000,"summary":{"operation":"append","engine-name":"spark","engine-version":"3.5.1",
 "iceberg-version":"Apache Iceberg 1.5.2 (commit cbb853073e681b4075d7c8707610dceecbee3a82)"},"manifest-list":
@@ -85,15 +66,10 @@ false,"type":{"type":"struct","fields":[{"id":6,"name":"lat","required":false,"t
 "s3://warehouse/db/events/metadata/s.stats","file-size-in-bytes":413,"file-footer-size-in-bytes":42,
 "blob-metadata":[{"type":"apache-datasketches-theta-v1","snapshot-id":7559570768388442785,"sequence-number":8,
 "fields":[1],"properties":{"ndv":"12"}}]}],"partition-statistics":[],"snapshot-log":[{"timestamp-ms":
-1709596800000,"snapshot-id":6860534835348719321},{"timestamp-ms":1709600400000,"snapshot-id":
-2343321149856230009},{"timestamp-ms":1709604000000,"snapshot-id":1918045885104987393},{"timestamp-ms":
-1709607600000,"snapshot-id":4086661043878124345},{"timestamp-ms":1709611200000,"snapshot-id":27284459368031241},
-{"timestamp-ms":1709614800000,"snapshot-id":7848602913725974121},{"timestamp-ms":1709618400000,"snapshot-id":
-3880573468301812713},{"timestamp-ms":1709622000000,"snapshot-id":7559570768388442785}],"metadata-log":[{
-"timestamp-ms":1709596795000,"metadata-file":
+1709622000000,"snapshot-id":7559570768388442785}],"metadata-log":[{"timestamp-ms":1709596795000,"metadata-file":
 "s3://warehouse/db/events/metadata/00000-aaaaaaaa-0000-4000-8000-000000000000.metadata.json"}]}"#;
 
-/// A table without partitions.
+/// A table without partitions, some of whose snapshots have expired.
 pub const PLAIN: &str =
     r#"{"format-version":2,"table-uuid":"ac7938d4-0cfc-2307-e2bf-325d28e7884e","location":"s3://warehouse/db/plain",
 "last-sequence-number":5,"last-updated-ms":1709597040000,"last-column-id":2,"current-schema-id":0,"schemas":[{
@@ -105,21 +81,12 @@ pub const PLAIN: &str =
 "write.avro.compression-codec":"uncompressed","commit.retry.num-retries":"4"},"current-snapshot-id":
 5787346651261761729,"refs":{"main":{"snapshot-id":5787346651261761729,"type":"branch"},"v1":{"snapshot-id":
 5974787585992374985,"type":"tag","max-ref-age-ms":604800000},"audit":{"snapshot-id":5093156774740809081,"type":
-"branch","min-snapshots-to-keep":3}},"snapshots":[{"sequence-number":1,"snapshot-id":4517289035762340017,
-"timestamp-ms":1709596800000,"summary":{"operation":"append","engine-name":"spark","engine-version":"3.5.1",
-"iceberg-version":"Apache Iceberg 1.5.2 (commit cbb853073e681b4075d7c8707610dceecbee3a82)","total-data-files":
-"12"},"manifest-list":
-"s3://warehouse/db/plain/metadata/snap-4517289035762340017-1-2f7d8596-5137-7e43-db3f-8b4c4ac6aeed.avro",
-"schema-id":0},{"sequence-number":2,"snapshot-id":5974787585992374985,"parent-snapshot-id":4517289035762340017,
-"timestamp-ms":1709596860000,"summary":{"operation":"append","engine-name":"spark","engine-version":"3.5.1",
-"iceberg-version":"Apache Iceberg 1.5.2 (commit cbb853073e681b4075d7c8707610dceecbee3a82)","total-data-files":
-"21"},"manifest-list":
+"branch","min-snapshots-to-keep":3}},"snapshots":[{"sequence-number":2,"snapshot-id":5974787585992374985,
+"parent-snapshot-id":4517289035762340017,"timestamp-ms":1709596860000,"summary":{"operation":"append",
+"engine-name":"spark","engine-version":"3.5.1","iceberg-version":
+"Apache Iceberg 1.5.2 (commit cbb853073e681b4075d7c8707610dceecbee3a82)","total-data-files":"21"},
+"manifest-list":
 "s3://warehouse/db/plain/metadata/snap-5974787585992374985-1-e045cf97-bfe5-19e7-2c68-c84fc5e1236c.avro",
-"schema-id":0},{"sequence-number":3,"snapshot-id":2283605302977256481,"parent-snapshot-id":5974787585992374985,
-"timestamp-ms":1709596920000,"summary":{"operation":"overwrite","engine-name":"spark","engine-version":"3.5.1",
-"iceberg-version":"Apache Iceberg 1.5.2 (commit cbb853073e681b4075d7c8707610dceecbee3a82)","total-data-files":
-"24"},"manifest-list":
-"s3://warehouse/db/plain/metadata/snap-2283605302977256481-1-26e43dfa-7aba-760e-9b91-8dc4a563031a.avro",
 "schema-id":0},{"sequence-number":4,"snapshot-id":5093156774740809081,"parent-snapshot-id":2283605302977256481,
 "timestamp-ms":1709596980000,"summary":{"operation":"append","engine-name":"spark","engine-version":"3.5.1",
 "iceberg-version":"Apache Iceberg 1.5.2 (commit cbb853073e681b4075d7c8707610dceecbee3a82)","total-data-files":
@@ -134,8 +101,6 @@ pub const PLAIN: &str =
 "s3://warehouse/db/plain/metadata/s.stats","file-size-in-bytes":413,"file-footer-size-in-bytes":42,
 "blob-metadata":[{"type":"apache-datasketches-theta-v1","snapshot-id":5787346651261761729,"sequence-number":5,
 "fields":[1],"properties":{"ndv":"12"}}]}],"partition-statistics":[],"snapshot-log":[{"timestamp-ms":
-1709596800000,"snapshot-id":4517289035762340017},{"timestamp-ms":1709596860000,"snapshot-id":
-5974787585992374985},{"timestamp-ms":1709596920000,"snapshot-id":2283605302977256481},{"timestamp-ms":
-1709596980000,"snapshot-id":5093156774740809081},{"timestamp-ms":1709597040000,"snapshot-id":
-5787346651261761729}],"metadata-log":[{"timestamp-ms":1709596795000,"metadata-file":
+1709596980000,"snapshot-id":5093156774740809081},{"timestamp-ms":1709597040000,"snapshot-id":5787346651261761729}],
+"metadata-log":[{"timestamp-ms":1709596795000,"metadata-file":
 "s3://warehouse/db/plain/metadata/00000-aaaaaaaa-0000-4000-8000-000000000000.metadata.json"}]}"#;
