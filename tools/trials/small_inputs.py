@@ -280,24 +280,25 @@ def small_objects():
     return Case(of_table(metadata, [row("mem://t/m")], {"m": manifest}), [], 0, ("plan", "append", "show", "audit"))
 
 
-def of_unread_json(items, megabytes):
-    """Metadata with a member that nobody reads. An object with members takes some 880 bytes, whatever it holds."""
+def of_unread_json(items, megabytes, of_append):
+    """Metadata with a member that nobody reads. An object with members takes some 880 bytes, whatever it holds. A
+    commit has them twice, as they were and as they will be, so that `append` is over."""
     metadata = table([(1, "c", "int")], [[]])
     metadata = metadata[:-1] + b',"x":[' + b",".join(items) + b"]}"
     manifest = container(entry_schema(), [entry("mem://t/f")])
     files = of_table(metadata, [row("mem://t/m")], {"m": manifest})
-    commands = ("plan", "append", "show", "audit")
-    return Case(files, [], 0, commands, {command: megabytes for command in commands})
+    limits = {"plan": megabytes, "append": of_append, "show": megabytes, "audit": megabytes}
+    return Case(files, [], 0, tuple(limits), limits)
 
 
 def small_members():
-    return of_unread_json([b'{"a":0}'] * 110000, 110)
+    return of_unread_json([b'{"a":0}'] * 110000, 110, 130)
 
 
 def members_in_members():
     """The most that JSON may take: 180 times its bytes."""
     depth = 110
-    return of_unread_json([b'{"":' * depth + b"0" + b"}" * depth] * 1800, 180)
+    return of_unread_json([b'{"":' * depth + b"0" + b"}" * depth] * 1800, 180, 180)
 
 
 def pipe_for_a_manifest():
