@@ -202,20 +202,20 @@ grouped true w = group w
 grouped false w = w
 
 -- a filter with the parentheses that it needs
-abbrev written : Tree Predicate → Written
+abbrev pub written : Tree Predicate → Written
 written (always b) = truth b
 written (single l) = predicate l
 written (all_of s t) = both (grouped (is_either s) (written s)) (grouped (is_operator t) (written t))
 written (one_of s t) = either (written s) (grouped (is_either t) (written t))
 
 -- each predicate is one of some text
-abbrev PredicatesRead : Tree Predicate → Type 0
+abbrev pub PredicatesRead : Tree Predicate → Type 0
 PredicatesRead (always b) = Unit {0}
 PredicatesRead (single l) = AllRead (predicate_tokens l)
 PredicatesRead (all_of s t) = PredicatesRead s × PredicatesRead t
 PredicatesRead (one_of s t) = PredicatesRead s × PredicatesRead t
 
-predicates_read : (w : Written) → AllRead (tokens_in w) → PredicatesRead (bare w)
+pub predicates_read : (w : Written) → AllRead (tokens_in w) → PredicatesRead (bare w)
 predicates_read (truth b) h = tt
 predicates_read (predicate l) h = h
 predicates_read (group w) h = predicates_read w (all_front (tokens_in w) (token.Close ∷ []) h.1)
@@ -268,7 +268,7 @@ shown_lexed (one_of s t) h =
     (lexes_behind (codes " or ") (enclosed (is_either t) (shown t)) (token.Or ∷ []) (tokens_in w) or_always
     (enclosed_lexed (is_either t) (shown t) (written t) (shown_lexed t h.1)))
 
-shown_words : (f : Tree Predicate) → PredicatesRead f → words (tokens_of (shown f)) ≡ tokens_in (written f)
+pub shown_words : (f : Tree Predicate) → PredicatesRead f → words (tokens_of (shown f)) ≡ tokens_in (written f)
 unfolding lexed
 shown_words f h =
     let whole : lexed 0 (shown f) ≡ tokens_in (written f) = rw (
@@ -292,7 +292,7 @@ unit_stands (single l) h = tt
 unit_stands (all_of s t) h = h
 unit_stands (one_of s t) h = h
 
-stands : (f : Tree Predicate) → Stands filter (written f)
+pub stands : (f : Tree Predicate) → Stands filter (written f)
 stands (always b) = tt
 stands (single l) = tt
 stands (all_of s t) = (conj_stands s (stands s), unit_stands t (stands t))
@@ -302,7 +302,7 @@ bare_grouped : (b : Bool) (w : Written) → bare (grouped b w) ≡ bare w
 bare_grouped true w = refl
 bare_grouped false w = refl
 
-bare_written : (f : Tree Predicate) → bare (written f) ≡ f
+pub bare_written : (f : Tree Predicate) → bare (written f) ≡ f
 bare_written (always b) = refl
 bare_written (single l) = refl
 bare_written (all_of s t) = rw (
@@ -367,7 +367,7 @@ as_shallow filter deep most (either v w) s h = (
       h.1,
 )
 
-within : (m : Limits) (w : Written) → Stands filter w → IsWithin m w → IsWithin m (written (bare w))
+pub within : (m : Limits) (w : Written) → Stands filter w → IsWithin m w → IsWithin m (written (bare w))
 within m w s h = record {
   few = rw (same_predicates w) h.few;
   shallow = as_shallow filter m.groups m.literals w s h.shallow;
@@ -389,7 +389,7 @@ says m n w s h read = (
   ),
 )
 
-read_tokens : (text : List ℕ) (w : Written) → words (tokens_of text) ≡ tokens_in w → AllRead (tokens_in w)
+pub read_tokens : (text : List ℕ) (w : Written) → words (tokens_of text) ≡ tokens_in w → AllRead (tokens_in w)
 read_tokens text w e = subst AllRead (sym (words_lexed 0 0 text) ∙ e) (lexed_read 0 text)
 
 reads_bare : (text : List ℕ) (f : Tree Predicate) (w : Written) → Says (words (tokens_of text)) w → IsWithin limits w

@@ -78,6 +78,13 @@ impl Parser {
         }
     }
 
+    /// Stands at a place from here on.
+    fn stand(&mut self, place: Place)
+        ensures { self.new ≡ record self.old { place = place } }
+    {
+        self.place = place;
+    }
+
     /// Ends the operands of `and`.
     #[tactic(auto, unfolding(crate::specs::Parsing::joined_and))]
     fn join_and(&mut self) -> Result<(), AllocError>
@@ -112,7 +119,7 @@ impl Parser {
             return Err(FilterFault::TooBig);
         }
         self.outer.push(self.now)?;
-        self.place = Place::Wants;
+        self.stand(Place::Wants);
         self.now = NONE;
         Ok(())
     }
@@ -126,7 +133,7 @@ impl Parser {
             return Err(FilterFault::TooBig);
         }
         let more = Items::new(alloc);
-        self.place = Place::Inside(Partial::Column(Column { first, more }));
+        self.stand(Place::Inside(Partial::Column(Column { first, more })));
         self.predicates += 1;
         Ok(())
     }
@@ -139,7 +146,7 @@ impl Parser {
     {
         let part = if truth { Part::True } else { Part::False };
         self.parts.push(part)?;
-        self.place = Place::After;
+        self.stand(Place::After);
         Ok(())
     }
 
@@ -150,7 +157,7 @@ impl Parser {
             (held add_part (state_of self.old) (parsing.predicate predicate)) }
     {
         self.parts.push(Part::Predicate(predicate))?;
-        self.place = Place::After;
+        self.stand(Place::After);
         Ok(())
     }
 
@@ -178,7 +185,7 @@ impl Parser {
             None => Err(FilterFault::Syntax(at)),
             Some(before) => {
                 self.join()?;
-                self.place = Place::After;
+                self.stand(Place::After);
                 self.now = before;
                 Ok(())
             }
@@ -191,7 +198,7 @@ impl Parser {
         ensures { Gives FilterFault.Memory (λ _. state_of self.new) result (anded add_part (state_of self.old)) }
     {
         self.join_and()?;
-        self.place = Place::Wants;
+        self.stand(Place::Wants);
         self.now.both = true;
         Ok(())
     }
@@ -202,7 +209,7 @@ impl Parser {
         ensures { Gives FilterFault.Memory (λ _. state_of self.new) result (ored add_part (state_of self.old)) }
     {
         self.join()?;
-        self.place = Place::Wants;
+        self.stand(Place::Wants);
         self.now = Pending {
             either: true,
             both: false,
@@ -232,7 +239,7 @@ impl Parser {
     {
         match progress {
             Progress::Going(partial) => {
-                self.place = Place::Inside(partial);
+                self.stand(Place::Inside(partial));
                 Ok(())
             }
             Progress::Done(predicate) => self.hold_predicate(predicate),
@@ -309,7 +316,8 @@ impl Parser {
     fn into_parts(self) -> Items<Part<Predicate>>
         ensures { result ≡ self.parts }
     {
-        let Parser { parts, .. } = self;
+        let Parser { place, parts, .. } = self;
+        drop(place);
         parts
     }
 }
@@ -323,7 +331,8 @@ pub fn parse(alloc: Global, text: &str) -> Result<Filter, FilterFault>
     ensures grammar { IsReadAs text.now (filter_of text.now) }
 {
     let mut parser = Parser::new(alloc);
-    parser.read(alloc, text)?;
+    let read = parser.read(alloc, text);
     let parts = parser.into_parts();
+    read?;
     Ok(Filter::from_items(alloc, parts)?)
 }

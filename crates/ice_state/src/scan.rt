@@ -79,13 +79,15 @@ impl Scan {
         most
     }
 
-    /// Of so many workers, how many may take manifests at once: each makes the projections that are not held, so that
-    /// they are few where these are large.
+    /// Of so many workers, how many may take manifests at once: no more than there are manifests, since one that finds
+    /// none left reads another's; and few where the projections that are not held are large, since each makes its own.
     pub fn workers(&self, most: usize) -> usize
         requires { 0 < most }
         ensures few { result ≤ most }
+        ensures one_a_manifest { 0 < length self.now.wanted → result ≤ length self.now.wanted }
         ensures some { 0 < result }
     {
+        let most = most.min(self.wanted.len().max(1));
         let made = self.most_made();
         if made == 0 {
             return most;
