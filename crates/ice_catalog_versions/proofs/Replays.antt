@@ -77,6 +77,17 @@ module _ (h : History) (s : State) (is : state_of h ≡ Some s) (c : Commit) whe
   pub added_done : added_on h c ≡ Some (added s c)
   added_done = ap (option_map (λ (s : State). added s c)) is
 
+-- what is prepared was not refused
+not_refused : (h : History) (s : State) (is : state_of h ≡ Some s) (c : Commit) (p : Step) (r : Option PrepareFault)
+    → refusal s c ≡ r → prepared_on h c ≡ Ok p → r ≡ None
+not_refused h s is c p None e prepared = refl
+not_refused h s is c p (Some f) e prepared = let both : Err f ≡ Ok p = sym (prepared_refused h s is c f e) ∙ prepared in
+    cc
+
+pub accepted : (h : History) (s : State) (is : state_of h ≡ Some s) (c : Commit) (p : Step) → prepared_on h c ≡ Ok p
+    → refusal s c ≡ None
+accepted h s is c p prepared = not_refused h s is c p (refusal s c) refl prepared
+
 -- a journal as the code compares it: the items are seen by v, and the last of the later ones is left out
 pub is_base : {A : Type 0} (v : A → Commit) (o p : Opening) (xs ys : List A) (k : ℕ) → k ≡ length ys - 1 → o ≡ p
     → (map v xs ≡ map v (take k ys)) ↔ (◌≡◌ {A = History} (record { opening = o; journal = map v xs })

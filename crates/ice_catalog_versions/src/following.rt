@@ -1,6 +1,6 @@
 //! The state after a commit: the next metadata, and the files with those that are added.
 
-ghost use Rattle.std.specs.Prelude.{◌≡◌, IfOk};
+ghost use Rattle.std.specs.Prelude.{◌≡◌, IfOk, OnOk};
 ghost use Rattle.ice_meta.specs.Committing.{CanFollow, next_metadata};
 ghost use Rattle.ice_catalog_versions.specs.Adding.{operation_of, snapshot_of};
 ghost use Rattle.ice_catalog_versions.specs.States.{seen, with_files};
@@ -25,17 +25,17 @@ fn operation_of(change: &Change) -> Operation
     }
 }
 
-/// The metadata after the commit.
-pub fn next_metadata(
+/// The metadata after the commit, in the room of the metadata before it.
+pub fn into_next_metadata(
     alloc: Global,
-    metadata: &Metadata,
+    metadata: Metadata,
     change: &Change,
     ids: &Ids,
 ) -> Result<Metadata, AllocError>
-    requires { CanFollow metadata.now.table
-        (snapshot_of metadata.now.table (record { change = change.now; ids = ids.now })) }
-    ensures { IfOk result (λ next. seen next ≡ next_metadata (seen metadata.now)
-        (snapshot_of metadata.now.table (record { change = change.now; ids = ids.now }))) }
+    requires { CanFollow metadata.table
+        (snapshot_of metadata.table (record { change = change.now; ids = ids.now })) }
+    ensures { IfOk result (λ next. seen next ≡ next_metadata (seen metadata)
+        (snapshot_of metadata.table (record { change = change.now; ids = ids.now }))) }
 {
     let added = NewSnapshot {
         id: ids.snapshot,
@@ -43,24 +43,23 @@ pub fn next_metadata(
         manifest_list: list_path(alloc, metadata.table(), ids)?,
         operation: operation_of(change),
     };
-    match metadata.with_snapshot(alloc, &added) {
+    match metadata.into_next(alloc, &added) {
         Ok(next) => Ok(next),
         // A table that can have the snapshot refuses it when out of memory alone.
         Err(_) => Err(AllocError),
     }
 }
 
-/// The same files with some more; a path that is there gets the new bytes.
-pub fn world_with(
+/// Gives the path of each file its bytes, whatever it had before.
+pub fn put_files(
     alloc: Global,
-    world: &World,
+    world: &mut World,
     files: &[(Text, Items<u8>)],
-) -> Result<World, AllocError>
-    ensures { IfOk result (λ w. w ≡ with_files world.now files.now) }
+) -> Result<(), AllocError>
+    ensures { OnOk result (world.new ≡ with_files world.old files.now) }
 {
-    let mut next = world.copy()?;
     'files: for file in files {
-        next.put(file.0.as_str(), file.1.copy(alloc)?.into_vec())?;
+        world.put(file.0.as_str(), file.1.copy(alloc)?.into_vec())?;
     }
-    Ok(next)
+    Ok(())
 }

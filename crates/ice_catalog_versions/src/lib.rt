@@ -25,7 +25,7 @@ pub use laws::{
 };
 pub use opening::Opening;
 pub use prepared::Prepared;
-pub use preparing::prepare;
+pub use preparing::{prepare, prepare_in_place};
 pub use receipt::Receipt;
 pub use version::Version;
 pub use world::World;

@@ -1,17 +1,14 @@
 //! A commit that is prepared on a version.
 
-ghost use Rattle.std.specs.Prelude.{◌≡◌, ◌↔◌, Some, IfOk, IsTrue};
+ghost use Rattle.std.specs.Prelude.{◌≡◌, ◌↔◌, Some, Ok, IfOk, IsTrue};
 ghost use Rattle.std.specs.Arc.{arc_value};
-ghost use Rattle.ice_catalog_versions.specs.Histories.{StepsTo, after, added_on, IsReceiptOf};
+ghost use Rattle.ice_catalog_versions.specs.Histories.{prepared_on, after, added_on, IsReceiptOf};
 ghost use Rattle.ice_catalog_versions.specs.Live.{AddsToBase};
-ghost use Rattle.ice_catalog_versions.specs.States.{seen};
 
 use crate::receipt::Receipt;
 use crate::version::Version;
-use crate::world::World;
 use contract_words::{Items, Text};
 use ice_catalog_changes::Commit;
-use ice_meta::Metadata;
 use std::alloc::{AllocError, AllocFailed, Global};
 use std::marker::Model;
 use std::sync::Arc;
@@ -39,21 +36,20 @@ impl Model for Prepared {
 }
 
 impl Prepared {
-    /// A commit on this base, which leaves this metadata and these files, and adds the files of the list.
-    pub(crate) fn on(
+    /// A commit on this base, which adds these files, in the room of the base.
+    pub(crate) fn over(
         alloc: Global,
-        base: &Version,
+        base: Version,
         commit: Arc<Commit>,
-        state: (Metadata, World),
         files: Vec<(Text, Items<u8>)>,
     ) -> Result<Prepared, AllocError>
-        requires step { StepsTo base.now (arc_value commit) (seen state.0) state.1 }
-        requires adds { AddsToBase base.now (arc_value commit) }
-        requires files { added_on base.now (arc_value commit) ≡ Some files.items }
-        ensures { IfOk result (λ p. p ≡ record { base = base.now; commit = arc_value commit }) }
+        requires prepared { prepared_on base (arc_value commit)
+            ≡ Ok (record { base = base; commit = arc_value commit }) }
+        requires adds { AddsToBase base (arc_value commit) }
+        requires files { added_on base (arc_value commit) ≡ Some files.items }
+        ensures { IfOk result (λ p. p ≡ record { base = base; commit = arc_value commit }) }
     {
-        let (metadata, world) = state;
-        let version = base.followed_by(alloc, &commit, metadata, world)?;
+        let version = base.into_after(alloc, &commit, &files)?;
         Ok(Prepared {
             version: Arc::new(alloc, version)?,
             commit,

@@ -1,13 +1,13 @@
 //! Preparing a commit on a version.
 
 ghost use Rattle.std.specs.Prelude.{◌≡◌, ◌<◌, None, Some, IfOk};
+ghost use Rattle.std.specs.Arc.{arc_value};
 ghost use Rattle.std.specs.List.{AllByRecursion};
 ghost use Rattle.contract_words.specs.Outcome.{Gives};
-ghost use Rattle.ice_meta.specs.Committing.{CanFollow};
-ghost use Rattle.ice_catalog_versions.specs.Adding.{CanWrite, added, next, snapshot_of};
+ghost use Rattle.ice_catalog_versions.specs.Adding.{CanWrite, added};
 ghost use Rattle.ice_catalog_versions.specs.Bases.{table_specs, base_rows};
 ghost use Rattle.ice_catalog_versions.specs.Groups.{groups};
-ghost use Rattle.ice_catalog_versions.specs.Histories.{prepared_on};
+ghost use Rattle.ice_catalog_versions.specs.Histories.{added_on, prepared_on};
 ghost use Rattle.ice_catalog_versions.specs.Live.{AddsToBase, AreReadBack, IsReadBack, new_manifests, rows_after};
 ghost use Rattle.ice_catalog_versions.specs.Outcome.{Refuses};
 ghost use Rattle.ice_catalog_versions.specs.Partitionings.{specs_of};
@@ -17,7 +17,6 @@ ghost use Rattle.ice_catalog_versions.specs.States.{state_now};
 
 use crate::adding::added_files;
 use crate::bases::base_rows;
-use crate::following::{next_metadata, world_with};
 use crate::groups::{Group, groups};
 use crate::partitioning::Partitioning;
 use crate::prepared::Prepared;
@@ -80,16 +79,8 @@ fn table_specs(alloc: Global, metadata: &Metadata) -> Result<Items<Spec>, AllocE
     metadata.specs(alloc, metadata.schema_for(&Target::Main))
 }
 
-/// The state that a commit leaves, and the files that it adds.
-#[derive(Drop)]
-struct Following {
-    metadata: Metadata,
-    world: World,
-    files: Vec<(Text, Items<u8>)>,
-}
-
-/// What a commit that isn't refused leaves and adds.
-fn following_of(
+/// The files that a commit adds, where it isn't refused.
+fn added_by(
     alloc: Global,
     metadata: &Metadata,
     world: &World,
@@ -97,30 +88,60 @@ fn following_of(
     change: &Change,
     ids: &Ids,
     accepted: Accepted,
-) -> Result<Following, AllocError>
+) -> Result<Vec<(Text, Items<u8>)>, AllocError>
     requires specs { specs_of partitionings.now ≡ table_specs metadata.now.table }
     requires accepted { refusal (state_now metadata.now world.now)
         (record { change = change.now; ids = ids.now }) ≡ None }
     requires rows { accepted.rows.items ≡ base_rows world.now metadata.now.table }
     requires groups { all_seen accepted.groups.items ≡ groups change.now }
-    ensures files { IfOk result (λ f. f.files.items
+    ensures files { IfOk result (λ files. files.items
         ≡ added (state_now metadata.now world.now) (record { change = change.now; ids = ids.now })) }
     ensures read { IfOk result (λ _. AllByRecursion IsReadBack
         (new_manifests (state_now metadata.now world.now) (record { change = change.now; ids = ids.now }))) }
     ensures list { IfOk result (λ _. AreReadBack
         (rows_after (state_now metadata.now world.now) (record { change = change.now; ids = ids.now })) ids.now) }
-    ensures state { IfOk result (λ f.
-        next (state_now metadata.now world.now) (record { change = change.now; ids = ids.now })
-        ≡ state_now f.metadata f.world) }
 {
     let Accepted { rows, groups } = accepted;
     let files = added_files(alloc, metadata, partitionings, ids, rows, &groups)?;
-    let next = next_metadata(alloc, metadata, change, ids)?;
-    Ok(Following {
-        metadata: next,
-        world: world_with(alloc, world, &files)?,
-        files,
-    })
+    Ok(files)
+}
+
+/// A commit that its base takes, and the files that it adds.
+#[derive(Drop)]
+struct AcceptedCommit {
+    commit: Arc<Commit>,
+    files: Vec<(Text, Items<u8>)>,
+}
+
+/// What a commit of this change adds to its base, or the first reason for which it is refused.
+fn accept(
+    alloc: Global,
+    base: &Version,
+    change: &Change,
+    ids: Ids,
+) -> Result<AcceptedCommit, PrepareFault>
+    ensures prepared { Gives PrepareFault.Memory (λ r. record { base = base.now; commit = arc_value r.commit }) result
+        (prepared_on base.now (record { change = change.now; ids = ids })) }
+    ensures commit { IfOk result (λ r. arc_value r.commit ≡ record { change = change.now; ids = ids }) }
+    ensures adds { IfOk result (λ r. AddsToBase base.now (arc_value r.commit)) }
+    ensures files { IfOk result (λ r. added_on base.now (arc_value r.commit) ≡ Some r.files.items) }
+{
+    let (metadata, world) = base.state();
+    let specs = table_specs(alloc, metadata)?;
+    let partitionings = partitionings(alloc, specs.as_slice())?;
+    let accepted = check(alloc, metadata, world, &partitionings, change, &ids)?;
+    let files = added_by(
+        alloc,
+        metadata,
+        world,
+        &partitionings,
+        change,
+        &ids,
+        accepted,
+    )?;
+    let change = change.copy(alloc)?;
+    let commit = Arc::new(alloc, Commit { change, ids })?;
+    Ok(AcceptedCommit { commit, files })
 }
 
 /// Prepares a commit of this change on a version: the version after it, with the files that it adds; or the first
@@ -137,25 +158,22 @@ pub fn prepare(
         (prepared_on base.now (record { change = change.now; ids = ids })) }
     ensures live { IfOk result (λ _. AddsToBase base.now (record { change = change.now; ids = ids })) }
 {
-    let (metadata, world) = base.state();
-    let specs = table_specs(alloc, metadata)?;
-    let partitionings = partitionings(alloc, specs.as_slice())?;
-    let accepted = check(alloc, metadata, world, &partitionings, change, &ids)?;
-    let following = following_of(
-        alloc,
-        metadata,
-        world,
-        &partitionings,
-        change,
-        &ids,
-        accepted,
-    )?;
-    let change = change.copy(alloc)?;
-    let commit = Arc::new(alloc, Commit { change, ids })?;
-    let Following {
-        metadata,
-        world,
-        files,
-    } = following;
-    Ok(Prepared::on(alloc, base, commit, (metadata, world), files)?)
+    let AcceptedCommit { commit, files } = accept(alloc, base, change, ids)?;
+    Ok(Prepared::over(alloc, base.copy(alloc)?, commit, files)?)
+}
+
+/// Prepares a commit as `prepare` does, in the room of its base, so that the metadata, which may be large, stand in
+/// memory once.
+pub fn prepare_in_place(
+    alloc: Global,
+    base: Version,
+    change: &Change,
+    ids: Ids,
+) -> Result<Prepared, PrepareFault>
+    ensures prepared { Gives PrepareFault.Memory (λ p. p) result
+        (prepared_on base (record { change = change.now; ids = ids })) }
+    ensures live { IfOk result (λ _. AddsToBase base (record { change = change.now; ids = ids })) }
+{
+    let AcceptedCommit { commit, files } = accept(alloc, &base, change, ids)?;
+    Ok(Prepared::over(alloc, base, commit, files)?)
 }

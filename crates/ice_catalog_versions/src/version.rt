@@ -5,13 +5,15 @@ ghost use Rattle.std.specs.Arc.{arc_value};
 ghost use Rattle.std.specs.Option.{option_map};
 ghost use Rattle.contract_words.specs.Outcome.{Gives};
 ghost use Rattle.ice_catalog_versions.specs.Covered.{BeganCovered, HasCoveredRows};
-ghost use Rattle.ice_catalog_versions.specs.Histories.{openable, opened, state_of, Leaves, StepsTo, after, before};
+ghost use Rattle.ice_catalog_versions.specs.Histories.{openable, opened, state_of, Leaves, after, before};
+ghost use Rattle.ice_catalog_versions.specs.Histories.{prepared_on, added_on};
 ghost use Rattle.ice_catalog_versions.specs.Live.{AddsToBase, IsGrown};
 ghost use Rattle.ice_catalog_versions.specs.States.{State, seen};
 
+use crate::following::{into_next_metadata, put_files};
 use crate::opening::Opening;
 use crate::world::World;
-use contract_words::Items;
+use contract_words::{Items, Text};
 use ice_catalog_changes::Commit;
 use ice_meta::{MetaFault, Metadata, Target};
 use std::alloc::{AllocError, Global};
@@ -149,38 +151,32 @@ impl Version {
         Ok(journal)
     }
 
-    /// The journal with one more commit.
-    fn journal_with(
-        &self,
+    /// The version after one more commit, which adds these files, in the room of this one.
+    pub(crate) fn into_after(
+        self,
         alloc: Global,
         commit: &Arc<Commit>,
-    ) -> Result<Vec<Arc<Commit>>, AllocError>
-        ensures { IfOk result (λ journal.
-            map (λ c. arc_value c) journal.items ≡ self.now.journal ++ arc_value commit.now ∷ []) }
-    {
-        let mut journal = self.shared_journal(alloc)?;
-        journal.push(Arc::try_clone(commit)?)?;
-        Ok(journal)
-    }
-
-    /// The version after one more commit, which leaves this metadata and these files.
-    pub(crate) fn followed_by(
-        &self,
-        alloc: Global,
-        commit: &Arc<Commit>,
-        metadata: Metadata,
-        world: World,
+        files: &[(Text, Items<u8>)],
     ) -> Result<Version, AllocError>
-        requires step { StepsTo self.now (arc_value commit.now) (seen metadata) world }
-        requires adds { AddsToBase self.now (arc_value commit.now) }
-        ensures { IfOk result (λ v. v ≡ after self.now (arc_value commit.now)) }
+        requires prepared { prepared_on self (arc_value commit.now)
+            ≡ Ok (record { base = self; commit = arc_value commit.now }) }
+        requires adds { AddsToBase self (arc_value commit.now) }
+        requires files { added_on self (arc_value commit.now) ≡ Some files.now }
+        ensures { IfOk result (λ v. v ≡ after self (arc_value commit.now)) }
     {
-        let opening = Arc::try_clone(&self.opening)?;
-        let journal = self.journal_with(alloc, commit)?;
+        let Version {
+            opening,
+            mut journal,
+            metadata,
+            mut world,
+        } = self;
+        let next = into_next_metadata(alloc, metadata, &commit.change, &commit.ids)?;
+        put_files(alloc, &mut world, files)?;
+        push_commit(&mut journal, commit)?;
         Ok(Version {
             opening,
             journal,
-            metadata,
+            metadata: next,
             world,
         })
     }
@@ -204,6 +200,15 @@ fn openable(alloc: Global, bytes: &[u8]) -> Result<Metadata, MetaFault>
         Ok(_) | Err(MetaFault::NoSnapshot) => Ok(metadata),
         Err(fault) => Err(fault),
     }
+}
+
+/// Puts a commit last, without copying what it holds.
+fn push_commit(to: &mut Vec<Arc<Commit>>, commit: &Arc<Commit>) -> Result<(), AllocError>
+    ensures { OnOk result (map (λ c. arc_value c) to.new.items
+        ≡ map (λ c. arc_value c) to.old.items ++ arc_value commit.now ∷ []) }
+{
+    to.push(Arc::try_clone(commit)?)?;
+    Ok(())
 }
 
 /// Puts these commits last, without copying what they hold.

@@ -25,7 +25,7 @@ ghost use Rattle.ice_meta.specs.Targets.{schema_for};
 use crate::commit::NewSnapshot;
 use crate::fault::{Member, MetaFault};
 use crate::log::newest_time;
-use crate::next::next_json;
+use crate::next::{into_next_json, next_json};
 use crate::schema::Schema;
 use crate::schema_text::text_of_schema;
 use crate::snapshot::{Ref, RefKind, Snapshot};
@@ -141,6 +141,24 @@ impl Metadata {
         ensures time { IfOk result (λ next. HasTime added.now.timestamp_ms (described next.json next.table)) }
     {
         let json = next_json(alloc, &self.json, &self.table, added)?;
+        let table = table_of(alloc, &json)?;
+        Ok(Self { json, table })
+    }
+
+    /// The metadata after a commit to this table, as by `with_snapshot`, in the room of the metadata before it.
+    pub fn into_next(self, alloc: Global, added: &NewSnapshot) -> Result<Metadata, MetaFault>
+        ensures json { Gives MetaFault.Memory (λ next. described next.json next.table) result
+            (committed (described self.json self.table) added.now) }
+        ensures table { CanFollow self.table added.now
+            → Gives MetaFault.Memory (λ next. described next.json next.table) result
+            (Ok (next_metadata (described self.json self.table) added.now)) }
+        ensures time { IfOk result (λ next. HasTime added.now.timestamp_ms (described next.json next.table)) }
+    {
+        let Metadata {
+            json: old,
+            table: base,
+        } = self;
+        let json = into_next_json(alloc, old, &base, added)?;
         let table = table_of(alloc, &json)?;
         Ok(Self { json, table })
     }

@@ -148,19 +148,19 @@ fn uuid_json(alloc: Global, uuid: Uuid) -> Result<Value, AllocError>
     Value::try_from_str(alloc, uuid.hyphenated().encode_lower(&mut buffer))
 }
 
-/// The metadata after the commit.
+/// The metadata after the commit, in the room of the metadata before it.
 #[tactic(auto, unfolding(crate::specs::Committing::next_json))]
-pub fn next_json(
+pub fn into_next_json(
     alloc: Global,
-    json: &Value,
+    json: Value,
     table: &Table,
     added: &NewSnapshot,
 ) -> Result<Value, AllocError>
-    ensures json { IfOk result (λ next. view next ≡ next_json table.now added.now (view json.now)) }
+    ensures json { IfOk result (λ next. view next ≡ next_json table.now added.now (view json)) }
     ensures longs { IfOk result (λ _. AreLongs table.now added.now) }
 {
     let sequence_number = Value::from(table.last_sequence_number.get() + 1);
-    let next = with_refs(alloc, json.clone()?, added)?;
+    let next = with_refs(alloc, json, added)?;
     let next = with_log(alloc, next, added)?;
     let next = with_snapshots(alloc, next, table, added)?;
     let next = set(
@@ -183,4 +183,17 @@ pub fn next_json(
     )?;
     let uuid = uuid_json(alloc, table.uuid)?;
     set(alloc, next, Member::TableUuid.name(), uuid)
+}
+
+/// The metadata after the commit.
+pub fn next_json(
+    alloc: Global,
+    json: &Value,
+    table: &Table,
+    added: &NewSnapshot,
+) -> Result<Value, AllocError>
+    ensures json { IfOk result (λ next. view next ≡ next_json table.now added.now (view json.now)) }
+    ensures longs { IfOk result (λ _. AreLongs table.now added.now) }
+{
+    into_next_json(alloc, json.clone()?, table, added)
 }

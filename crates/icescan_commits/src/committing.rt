@@ -22,7 +22,7 @@ ghost use Rattle.icescan_print.specs.Written.{Wrote};
 use crate::base::{read_base, read_metadata};
 use contract_words::Text;
 use ice_catalog_changes::{Change, Ids};
-use ice_catalog_versions::{Prepared, Version, prepare};
+use ice_catalog_versions::{Prepared, Version, prepare_in_place};
 use ice_desk::Files;
 use icescan_files::{Store, StoreFault, put_files};
 use icescan_print::{Sink, SinkFault, put_named_long, put_named_number, write_all};
@@ -83,7 +83,7 @@ fn prepare_from<F: Files>(
     // The version has metadata of its own: the two need not be there at once.
     drop(metadata);
     let base = Version::open(alloc, bytes, kept)?;
-    Ok(prepare(alloc, &base, change, ids)?)
+    Ok(prepare_in_place(alloc, base, change, ids)?)
 }
 
 /// Prepares the commit that is asked for. The refusal is, in this order, `Absent` or `Device` for the metadata, the

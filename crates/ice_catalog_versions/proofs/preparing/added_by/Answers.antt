@@ -3,14 +3,14 @@ use Rattle.std.specs.List.{AllByRecursion}
 use Rattle.ice_meta.specs.Targets.{Described, described}
 use Rattle.ice_catalog_changes.specs.declared.change.Commit.{Commit}
 use Rattle.ice_manifest_reading.specs.declared.row.Row.{Row}
-use Rattle.ice_catalog_versions.specs.Adding.{CanWrite, files_over, added, manifests_from, next, next_rows}
+use Rattle.ice_catalog_versions.specs.Adding.{CanWrite, files_over, added, manifests_from, next_rows}
 use Rattle.ice_catalog_versions.specs.Adding.{next_sequence}
 use Rattle.ice_catalog_versions.specs.Groups.{Group, groups}
 use Rattle.ice_catalog_versions.specs.Live.{AreReadBack, IsReadBack}
 use Rattle.ice_catalog_versions.specs.Seen.{all_seen}
-use Rattle.ice_catalog_versions.specs.States.{State, with_files}
-use Rattle.ice_catalog_versions.proofs.Accepting.{last_below, can_follow, can_write}
-use Rattle.ice_catalog_versions.proofs.preparing.following_of.Goals as goal
+use Rattle.ice_catalog_versions.specs.States.{State}
+use Rattle.ice_catalog_versions.proofs.Accepting.{last_below, can_write}
+use Rattle.ice_catalog_versions.proofs.preparing.added_by.Goals as goal
 
 pub added_files-requires-clause-last : goal.added_files-requires-clause-last
 added_files-requires-clause-last c =
@@ -28,15 +28,6 @@ added_files-requires-clause-writable c =
     let commit : Commit = record { change = c.args.change.now; ids = c.args.ids.now } in
     subst (AllByRecursion (CanWrite m c.args.ids.now)) (sym (ap all_seen c.deref.ensures.value ∙ c.requires.groups))
     (can_write s commit c.requires.accepted c.args.metadata.now.says)
-
-pub next_metadata-requires : goal.next_metadata-requires
-next_metadata-requires c =
-    let s : State = record {
-      metadata = described c.args.metadata.now.json c.args.metadata.now.table;
-      world = c.args.world.now;
-    } in
-    let commit : Commit = record { change = c.args.change.now; ids = c.args.ids.now } in
-    can_follow s commit c.requires.accepted
 
 pub returns-clause-files : goal.returns-clause-files
 unfolding added
@@ -63,10 +54,3 @@ returns-clause-list c =
     c.in_ok-files.ensures.list in
     subst (λ (rows : List Row). AreReadBack (next_rows rows seq (manifests_from m ids 0 (groups c.args.change.now)))
     ids) c.requires.rows of_groups
-
-pub returns-clause-state : goal.returns-clause-state
-unfolding next
-returns-clause-state c =
-    let files = c.deref-2.ensures.value ∙ returns-clause-files c in
-    let world = c.in_ok-world_with.ensures ∙ ap (with_files c.args.world.now) files in
-    λ i. record { metadata = sym c.in_ok-next.ensures i; world = sym world i }
