@@ -1,0 +1,3 @@
+pub mod Weaker
+pub mod Read
+pub mod Alone
