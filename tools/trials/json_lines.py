@@ -130,8 +130,12 @@ def of_audit(text):
         words = row.split(' ')
         has = dict(zip(words[::2], words[1::2]))
         if words[0] == 'finding':
-            fault = not has['finding'].startswith('dangling-')
+            fault = not has['finding'].startswith(('dangling-', 'total-'))
             faults += fault
+            if 'says' in has:
+                yield line(kind='finding', finding=has['finding'], level='note', says=int(has['says']),
+                           counted=int(has['counted']))
+                continue
             yield line(kind='finding', finding=has['finding'], level='fault' if fault else 'note',
                        manifest=plain(has['manifest']), file=plain(has['file']) if 'file' in has else None,
                        field=plain(has['field']) if 'field' in has else None,

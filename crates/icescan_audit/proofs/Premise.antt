@@ -160,7 +160,7 @@ pub record IsAuditOf (world : World) (metadata : List ℕ) (target : Target) (au
   pub rows_are : rows_at world subject.list ≡ Ok rows
   pub read : Reading
   pub read_is : rows_audit world (among rows subject.basis) rows ≡ Ok read
-  pub audit_is : whole read ≡ audit
+  pub audit_is : whole subject.said read ≡ audit
 
 pub parts_of : (world : World) (metadata : List ℕ) (target : Target) (audit : Audit)
     → audit_of world metadata target ≡ Ok audit → IsAuditOf world metadata target audit

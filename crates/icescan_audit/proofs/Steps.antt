@@ -267,7 +267,7 @@ module _ (f : List ℕ → Type 0) (world : World) (metadata : List ℕ) (target
 
     module _ (known : all_known subject.basis.specs rows ≡ Ok tt) where
       audit_is : audit_of world metadata target
-          ≡ (rows_audit world (among rows subject.basis) rows >>= λ read. Ok (whole read))
+          ≡ (rows_audit world (among rows subject.basis) rows >>= λ read. Ok (whole subject.said read))
       unfolding audit_of
       audit_is = rw (is, has, known) refl
 
@@ -277,12 +277,12 @@ module _ (f : List ℕ → Type 0) (world : World) (metadata : List ℕ) (target
       unfolding audit_of
       no_audit e h =
           let later = first_ends stops ⊥ (EndsAt world f (paths_of rows))
-          (rows_audit world (among rows subject.basis) rows) (λ read. Ok (whole read)) e reads_manifests h in
+          (rows_audit world (among rows subject.basis) rows) (λ read. Ok (whole subject.said read)) e reads_manifests h in
           subst (λ found. MayEnd found stops ⊥ e) (sym audit_is) later
 
       pub audit_there : (read : Reading) → rows_audit world (among rows subject.basis) rows ≡ Ok read
-          → audit_of world metadata target ≡ Ok (whole read)
-      audit_there read h = audit_is ∙ ap (λ (found : Result Reading RunFault). found >>= λ r. Ok (whole r)) h
+          → audit_of world metadata target ≡ Ok (whole subject.said read)
+      audit_there read h = audit_is ∙ ap (λ (found : Result Reading RunFault). found >>= λ r. Ok (whole subject.said r)) h
 
 -- ---- the metadata in a file
 

@@ -18,6 +18,7 @@ use Rattle.icescan_audit_findings.specs.declared.finding.Finding.{Finding}
 use Rattle.icescan_audit_findings.specs.declared.finding.Flaw.{Flaw}
 use Rattle.icescan_audit_findings.specs.declared.finding.Flaw.TheVariants.{NamedNotLive}
 use Rattle.icescan_audit_findings.specs.declared.repeats.LiveFile.{LiveFile}
+use Rattle.icescan_audit_findings.specs.declared.totals.SaidTotal.{SaidTotal}
 use Rattle.icescan_audit_findings.proofs.Dangled.{dangles, is_named, is_told, kept_from, names}
 use Rattle.icescan_audit_findings.proofs.Hitting.{passes}
 use Rattle.icescan_audit_findings.proofs.Members.{at_head, first_or_behind, from_map, in_map, in_none}
@@ -227,7 +228,7 @@ at manifest path flaw = record { manifest = manifest; file = Some path; flaw = f
 
 module _ (fits : FitsItsRow) (refs : IsOfDeletesWhereReferenced) (world : World) (basis : Basis) (rows : List Row)
     (read : Reading)
-    (audited : rows_audit world (among rows basis) rows ≡ Ok read) where
+    (said : List SaidTotal) (audited : rows_audit world (among rows basis) rows ≡ Ok read) where
   abbrev held : Basis
   held = among rows basis
 
@@ -317,7 +318,7 @@ module _ (fits : FitsItsRow) (refs : IsOfDeletesWhereReferenced) (world : World)
 
   -- the findings on delete files are among those of the whole
   from_whole : (manifest path : List ℕ) (flaw : Flaw) → is_on_deletes flaw ≡ true
-      → Contains (whole read).findings (at manifest path flaw)
+      → Contains (whole said read).findings (at manifest path flaw)
       → Contains (delete_findings read.live) (at manifest path flaw)
   from_whole manifest path flaw is c =
       let y = at manifest path flaw in
@@ -336,7 +337,7 @@ module _ (fits : FitsItsRow) (refs : IsOfDeletesWhereReferenced) (world : World)
             absurd cc)
       ]
 
-  to_whole : (y : Finding) → Contains (delete_findings read.live) y → Contains (whole read).findings y
+  to_whole : (y : Finding) → Contains (delete_findings read.live) y → Contains (whole said read).findings y
   to_whole y c = Contains-append_left (read.findings ++ delete_findings read.live) (repeats read.live) y
       (Contains-append_right read.findings (delete_findings read.live) y c)
 
@@ -375,7 +376,7 @@ module _ (fits : FitsItsRow) (refs : IsOfDeletesWhereReferenced) (world : World)
     -- the law, for one kind of deletes
     pub dangling_told : (content : FileContent) → (content ≡ Data → ⊥) → (NamedNotLive ≡ dangling_flaw content → ⊥)
         → is_on_deletes (dangling_flaw content) ≡ true
-        → Contains (whole read).findings (at manifest path (dangling_flaw content))
+        → Contains (whole said read).findings (at manifest path (dangling_flaw content))
         ↔ DanglesUnder content world basis.specs rows manifest path
     dangling_told content real apart on = (
       λ c. dangles_under content (dangles content read.live manifest path real apart
@@ -424,7 +425,7 @@ module _ (fits : FitsItsRow) (refs : IsOfDeletesWhereReferenced) (world : World)
           h.none_has_it x.row x.file x.is_row x.is_live x.data_is (ap (λ (z : DataKey). z.path) x.is ∙ same);
     }
 
-    pub named_told : Contains (whole read).findings (at manifest path NamedNotLive)
+    pub named_told : Contains (whole said read).findings (at manifest path NamedNotLive)
         ↔ NamesNoneUnder world basis.specs rows manifest path
     named_told = (
       λ c. names_under (names read.live manifest path (from_whole manifest path NamedNotLive refl c)),
@@ -435,7 +436,8 @@ module _ (fits : FitsItsRow) (refs : IsOfDeletesWhereReferenced) (world : World)
 pub snapshot_read : (world : World) (metadata : List ℕ) (target : Target) (audit : Audit) (subject : Subject)
     (rows : List Row) → audit_of world metadata target ≡ Ok audit → subject_of metadata target ≡ Ok subject
     → rows_at world subject.list ≡ Ok rows
-    → (read : Reading) × (rows_audit world (among rows subject.basis) rows ≡ Ok read) × (whole read ≡ audit)
+    → (read : Reading) × (rows_audit world (among rows subject.basis) rows ≡ Ok read)
+    × (whole subject.said read ≡ audit)
 snapshot_read world metadata target audit subject rows is asked listed =
     let p = parts_of world metadata target audit is in
     let same : p.subject ≡ subject = one_value (subject_of metadata target) p.subject subject p.subject_is asked in
@@ -444,5 +446,5 @@ snapshot_read world metadata target audit subject rows is asked listed =
       p.read,
       subst (λ (s : Subject). rows_audit world (among rows s.basis) rows ≡ Ok p.read) same
           (subst (λ (rs : List Row). rows_audit world (among rs p.subject.basis) rs ≡ Ok p.read) alike p.read_is),
-      p.audit_is,
+      subst (λ (s : Subject). whole s.said p.read ≡ audit) same p.audit_is,
     )

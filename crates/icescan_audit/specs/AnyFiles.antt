@@ -40,7 +40,7 @@ pub record IsAnAudit (gives : Giving) (metadata : List ℕ) (target : Target) (a
   pub listed : AreRowsGiven gives subject.list rows
   pub known : all_known subject.basis.specs rows ≡ Ok tt
   pub manifests : IsReadOf gives (among rows subject.basis) rows read
-  pub is : audit ≡ whole read
+  pub is : audit ≡ whole subject.said read
 
 -- what was written is the text of such an audit, which has so many faults
 abbrev pub WroteAnAudit : Giving → List ℕ → Target → ℕ → Option (List ℕ) → Option (List ℕ) → Type 0

@@ -7,7 +7,9 @@ use Rattle.icescan_audit_findings.specs.Dangling.{delete_findings}
 use Rattle.icescan_audit_findings.specs.Findings.{manifest_findings}
 use Rattle.icescan_audit_findings.specs.Repeats.{live_files, repeats}
 use Rattle.icescan_audit_findings.specs.RowFlaws.{row_findings}
+use Rattle.icescan_audit_findings.specs.Totals.{false_totals}
 use Rattle.icescan_audit_findings.specs.declared.finding.Finding.{Finding}
+use Rattle.icescan_audit_findings.specs.declared.totals.SaidTotal.{SaidTotal}
 use Rattle.ice_desk.specs.Wanted.{paths_of}
 use Rattle.ice_manifest_fields.specs.declared.fault.ManifestFault.{ManifestFault}
 use Rattle.ice_manifest_fields.specs.declared.fault.ManifestFault.TheVariants as manifest
@@ -87,12 +89,14 @@ rows_audit world basis (row ∷ rows) = do
   Ok (joined first others)
 
 -- the audit that reads this: behind what was found manifest by manifest stand the delete files that name or reach no
--- live data file, and then the files whose path another has
-abbrev pub whole : Reading → Audit
-whole read = record {
+-- live data file, and then the files whose path another has; beside them stand the totals that the snapshot's summary
+-- says and that the live files do not come to
+abbrev pub whole : List SaidTotal → Reading → Audit
+whole said read = record {
   manifests = read.manifests;
   entries = read.entries;
   findings = read.findings ++ delete_findings read.live ++ repeats read.live;
+  false_totals = false_totals read.live said;
 }
 
 -- the audit of a snapshot of the table whose metadata these are the bytes of, or the first refusal: the metadata's,
@@ -103,7 +107,7 @@ audit_of world metadata target = do
   rows ← rows_at world subject.list
   _ ← all_known subject.basis.specs rows
   read ← rows_audit world (among rows subject.basis) rows
-  Ok (whole read)
+  Ok (whole subject.said read)
 
 -- the paths that are read, in this order: the list's, and then those of the manifests
 abbrev pub manifests_of : Result (List Row) RunFault → List (List ℕ)

@@ -9,8 +9,10 @@ use Rattle.icescan_audit_findings.specs.declared.finding.Flaw.{Flaw}
 use Rattle.icescan_audit_findings.specs.declared.finding.Flaw.TheVariants.{BoundsCross, ExcessNulls, NoColumn}
 use Rattle.icescan_audit_findings.specs.declared.finding.Flaw.TheVariants.{OfColumn, OfField, Uncovered}
 use Rattle.icescan_audit_findings.specs.Telling.{faults, is_fault}
+use Rattle.icescan_audit_findings.specs.declared.totals.FalseTotal.{FalseTotal}
 use Rattle.icescan_audit.specs.AnyFiles.{IsAnAudit}
-use Rattle.icescan_audit.specs.Texts.{audit_text, flaw_name}
+use Rattle.icescan_audit.specs.Summaries.{total_name}
+use Rattle.icescan_audit.specs.Texts.{audit_text, flaw_name, number_of_findings}
 use Rattle.icescan_audit.specs.declared.audit.Audit.{Audit}
 use Rattle.icescan_forms.specs.Objects.{count_json, number_json, object_line, text_if}
 use Rattle.icescan_forms.specs.declared.format.Format.{Format}
@@ -45,16 +47,29 @@ finding_json x =
 unfoldable pub finding_object : Finding → List ℕ
 finding_object x = object_line (finding_json x)
 
+-- a total of the snapshot's summary that is false, which is about no manifest, file, field or column
+abbrev pub total_json : FalseTotal → List (List ℕ × Data)
+total_json x =
+    (codes "kind", string (codes "finding")) ∷ (codes "finding", string (total_name x.total))
+    ∷ (codes "level", string (codes "note")) ∷ (codes "says", count_json x.said)
+    ∷ (codes "counted", number_json x.counted) ∷ []
+
+unfoldable pub total_object : FalseTotal → List ℕ
+total_object x = object_line (total_json x)
+
 -- how many manifests and live entries were read, and how many findings and faults there are
 abbrev pub totals_json : Audit → List (List ℕ × Data)
 totals_json audit =
     (codes "kind", string (codes "totals")) ∷ (codes "manifests", count_json audit.manifests)
-    ∷ (codes "entries", count_json audit.entries) ∷ (codes "findings", count_json (length audit.findings))
+    ∷ (codes "entries", count_json audit.entries) ∷ (codes "findings", count_json (number_of_findings audit))
     ∷ (codes "faults", count_json (length (faults audit.findings))) ∷ []
 
--- the findings, and then the counts
+-- the findings, the false totals, and then the counts
+abbrev pub objects_end : Audit → List ℕ
+objects_end audit = flat_map total_object audit.false_totals ++ object_line (totals_json audit)
+
 unfoldable pub audit_objects : Audit → List ℕ
-audit_objects audit = flat_map finding_object audit.findings ++ object_line (totals_json audit)
+audit_objects audit = flat_map finding_object audit.findings ++ objects_end audit
 
 -- an audit in a form
 abbrev pub audit_told : Format → Audit → List ℕ

@@ -1,8 +1,10 @@
+pub mod Summaries
 pub mod Subjects
 pub mod Audits
 pub mod Texts
 pub mod Premises
 pub mod Strays
+pub mod Totals
 pub mod AnyFiles
 pub mod Readings
 pub mod JsonLines

@@ -14,6 +14,8 @@ use Rattle.icescan_text.specs.Faults.{of_meta}
 use Rattle.icescan_text.specs.Reads.{as_run, schema_of}
 use Rattle.icescan_text.specs.declared.fault.RunFault.{RunFault}
 use Rattle.icescan_text.specs.declared.fault.RunFault.TheVariants as run
+use Rattle.serde_json.specs.Data.{Data}
+use Rattle.icescan_audit.specs.Summaries.{totals_under}
 use Rattle.icescan_audit.specs.declared.subject.Subject.{Subject}
 
 abbrev pub column_ids : Schema → List ℤ
@@ -46,18 +48,22 @@ basis_of schema table target = record {
   has_deletes = false;
 }
 
--- a snapshot of a table, or that it has none such
-unfoldable pub subject_in : Table → Target → Result Subject RunFault
-subject_in table target = do
+-- a snapshot of a table, which metadata that are this JSON describe, or that it has none such
+unfoldable pub subject_in : Data → Table → Target → Result Subject RunFault
+subject_in json table target = do
   list ← as_run of_meta (list_of target table)
   schema ← as_run of_meta (schema_of target table)
-  Ok (record { list = list; basis = basis_of schema table target })
+  Ok (record {
+    list = list;
+    basis = basis_of schema table target;
+    said = totals_under (resolved target table) json;
+  })
 
 -- the same of the table whose metadata these are the bytes of, or the first fault of the bytes
 unfoldable pub subject_of : List ℕ → Target → Result Subject RunFault
 subject_of metadata target = do
   described ← as_run of_meta (metadata_of metadata)
-  subject_in described.table target
+  subject_in described.json described.table target
 
 -- the faults of metadata
 abbrev pub IsOfMetadata : RunFault → Type 0

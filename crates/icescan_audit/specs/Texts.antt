@@ -1,5 +1,5 @@
 -- The program's own text of an audit. (10 is the line feed.)
-use Rattle.std.specs.Prelude.{◌≡◌, ℕ, List, [], ◌∷◌, ◌++◌, length, codes, Option, Some, None, Result, Ok}
+use Rattle.std.specs.Prelude.{◌≡◌, ℕ, ◌+◌, List, [], ◌∷◌, ◌++◌, length, codes, Option, Some, None, Result, Ok}
 use Rattle.std.specs.List.{flat_map}
 use Rattle.icescan_audit_findings.specs.declared.finding.Count.{Count}
 use Rattle.icescan_audit_findings.specs.declared.finding.Count.TheVariants.{AddedFiles, ExistingFiles, DeletedFiles}
@@ -26,6 +26,8 @@ use Rattle.icescan_audit_findings.specs.Telling.{faults}
 use Rattle.icescan_print.specs.Pieces.{named_number, named_path, named_signed}
 use Rattle.icescan_print.specs.Written.{Appends, AppendsFront}
 use Rattle.icescan_text.specs.declared.fault.RunFault.{RunFault}
+use Rattle.icescan_audit_findings.specs.declared.totals.FalseTotal.{FalseTotal}
+use Rattle.icescan_audit.specs.Summaries.{total_name}
 use Rattle.icescan_audit.specs.declared.audit.Audit.{Audit}
 
 -- what is counted
@@ -108,14 +110,28 @@ finding_end x = file_text x.file ++ (flaw_end x.flaw ++ 10 ∷ [])
 unfoldable pub finding_text : Finding → List ℕ
 finding_text x = codes "finding " ++ (flaw_name x.flaw ++ (named_path (codes " manifest ") x.manifest ++ finding_end x))
 
+-- the line of a total of the snapshot's summary that is false: what the summary says, and what its live files come to
+abbrev pub said_end : FalseTotal → List ℕ
+said_end x = named_number (codes " says ") x.said ++ (named_signed (codes " counted ") x.counted ++ 10 ∷ [])
+
+unfoldable pub total_text : FalseTotal → List ℕ
+total_text x = codes "finding " ++ (total_name x.total ++ said_end x)
+
+-- how many findings there are, false totals among them
+abbrev pub number_of_findings : Audit → ℕ
+number_of_findings audit = length audit.findings + length audit.false_totals
+
 -- the last line: how many manifests and live entries were read, and how many findings there are
 unfoldable pub totals_text : Audit → List ℕ
 totals_text audit = named_number (codes "manifests ") audit.manifests ++ (named_number (codes " entries ") audit.entries
-    ++ (named_number (codes " findings ") (length audit.findings) ++ 10 ∷ []))
+    ++ (named_number (codes " findings ") (number_of_findings audit) ++ 10 ∷ []))
 
--- the findings, and then the last line
+-- the findings, the false totals, and then the last line
+abbrev pub text_end : Audit → List ℕ
+text_end audit = flat_map total_text audit.false_totals ++ totals_text audit
+
 unfoldable pub audit_text : Audit → List ℕ
-audit_text audit = flat_map finding_text audit.findings ++ totals_text audit
+audit_text audit = flat_map finding_text audit.findings ++ text_end audit
 
 -- what was written is the text of the audit that is asked for, which has so many faults; or a front of that text
 abbrev pub WroteAudit : Result Audit RunFault → ℕ → Option (List ℕ) → Option (List ℕ) → Type 0

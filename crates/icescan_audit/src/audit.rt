@@ -13,7 +13,10 @@ use crate::manifests::{audit_bytes, spec_for};
 use contract_words::Items;
 use ice_desk::Files;
 use ice_manifest_reading::Row;
-use icescan_audit_findings::{Basis, Finding, LiveFile, push_delete_findings, push_repeats};
+use icescan_audit_findings::{
+    Basis, FalseTotal, Finding, LiveFile, SaidTotal, false_totals, push_delete_findings,
+    push_repeats,
+};
 use icescan_text::{RunFault, read_file_into};
 use std::alloc::{AllocError, Global};
 
@@ -28,6 +31,9 @@ pub struct Audit {
     /// order, the delete files that name no live data file and those that apply to none; and then, in the order of their
     /// paths, the files whose path another live file has.
     pub findings: Items<Finding>,
+    /// The totals that the snapshot's summary says and that its live files do not come to. They are no faults: no plan
+    /// goes by them.
+    pub false_totals: Items<FalseTotal>,
 }
 
 /// What was read of some manifests.
@@ -44,9 +50,9 @@ pub struct Reading {
 }
 
 impl Reading {
-    /// The audit that reads this, with what is found of all files together.
-    pub fn whole(self, alloc: Global) -> Result<Audit, AllocError>
-        ensures { IfOk result (λ audit. audit ≡ whole self) }
+    /// The audit that reads this of a snapshot whose summary says these totals, with what is found of all files together.
+    pub fn whole(self, alloc: Global, said: &[SaidTotal]) -> Result<Audit, AllocError>
+        ensures { IfOk result (λ audit. audit ≡ whole said.now self) }
     {
         let Reading {
             manifests,
@@ -55,11 +61,13 @@ impl Reading {
             live,
         } = self;
         push_delete_findings(alloc, &mut findings, live.as_slice())?;
+        let false_totals = false_totals(alloc, said, live.as_slice())?;
         push_repeats(alloc, &mut findings, live.into_vec())?;
         Ok(Audit {
             manifests,
             entries,
             findings,
+            false_totals,
         })
     }
 

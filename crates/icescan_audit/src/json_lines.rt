@@ -3,14 +3,15 @@
 ghost use Rattle.std.specs.Prelude.{◌≡◌, ◌⊎◌, IfErr, IsErrOf, OnOk};
 ghost use Rattle.std.specs.List.{flat_map};
 ghost use Rattle.icescan_audit.specs.JsonLines.{audit_objects, column_json, field_json, finding_object, level};
-ghost use Rattle.icescan_audit.specs.JsonLines.{totals_json};
+ghost use Rattle.icescan_audit.specs.JsonLines.{objects_end, total_object, totals_json};
 ghost use Rattle.icescan_forms.specs.Objects.{object_line, text_if, value_json};
 ghost use Rattle.icescan_print.specs.Written.{Appends, AppendsFront, Sent};
 
 use crate::audit::Audit;
-use crate::lines::flaw_name;
+use crate::lines::{flaw_name, number_of_findings};
+use crate::summary::total_name;
 use contract_words::Items;
-use icescan_audit_findings::{Finding, Flaw, count_faults};
+use icescan_audit_findings::{FalseTotal, Finding, Flaw, count_faults};
 use icescan_forms::{Value, put_object};
 use icescan_print::{Page, Sink, SinkFault};
 use icescan_text::RunFault;
@@ -83,6 +84,40 @@ fn put_findings<S: Sink>(
     Ok(())
 }
 
+/// Sends a false total.
+#[tactic(auto, unfolding(crate::specs::JsonLines::total_object))]
+fn put_false_total<S: Sink>(
+    page: &mut Page,
+    sink: &mut S,
+    total: &FalseTotal,
+) -> Result<(), SinkFault>
+    ensures { Sent S.taken S.may_fail sink.old page.old result sink.new page.new (total_object total.now) }
+{
+    let members = [
+        ("kind", Value::Text(b"finding")),
+        ("finding", Value::Text(total_name(total.total).as_bytes())),
+        ("level", Value::Text(b"note")),
+        ("says", Value::Count(total.said as u128)),
+        ("counted", Value::Sum(total.counted)),
+    ];
+    put_object(page, sink, &members)
+}
+
+/// Sends false totals.
+fn put_false_totals<S: Sink>(
+    page: &mut Page,
+    sink: &mut S,
+    totals: &[FalseTotal],
+) -> Result<(), SinkFault>
+    ensures { Sent S.taken S.may_fail sink.old page.old result sink.new page.new
+        (flat_map total_object totals.now) }
+{
+    'totals: for total in totals {
+        put_false_total(page, sink, total)?;
+    }
+    Ok(())
+}
+
 /// Sends the counts of an audit.
 fn put_totals<S: Sink>(page: &mut Page, sink: &mut S, audit: &Audit) -> Result<(), SinkFault>
     ensures { Sent S.taken S.may_fail sink.old page.old result sink.new page.new (object_line (totals_json audit.now)) }
@@ -92,10 +127,18 @@ fn put_totals<S: Sink>(page: &mut Page, sink: &mut S, audit: &Audit) -> Result<(
         ("kind", Value::Text(b"totals")),
         ("manifests", Value::Count(audit.manifests as u128)),
         ("entries", Value::Count(audit.entries)),
-        ("findings", Value::Count(findings.len() as u128)),
+        ("findings", Value::Count(number_of_findings(audit))),
         ("faults", Value::Count(count_faults(findings) as u128)),
     ];
     put_object(page, sink, &members)
+}
+
+/// Sends what stands behind the findings of an audit.
+fn put_end<S: Sink>(page: &mut Page, sink: &mut S, audit: &Audit) -> Result<(), SinkFault>
+    ensures { Sent S.taken S.may_fail sink.old page.old result sink.new page.new (objects_end audit.now) }
+{
+    put_false_totals(page, sink, audit.false_totals.as_slice())?;
+    put_totals(page, sink, audit)
 }
 
 /// Sends an audit.
@@ -104,7 +147,7 @@ fn put_audit<S: Sink>(page: &mut Page, sink: &mut S, audit: &Audit) -> Result<()
     ensures { Sent S.taken S.may_fail sink.old page.old result sink.new page.new (audit_objects audit.now) }
 {
     put_findings(page, sink, audit.findings.as_slice())?;
-    put_totals(page, sink, audit)
+    put_end(page, sink, audit)
 }
 
 /// Writes an audit as lines of JSON and nothing else. It refuses when out of memory, and then nothing was written, or

@@ -7,6 +7,8 @@ ghost use Rattle.icescan_audit_findings.specs.Telling.{faults, uncovered};
 ghost use Rattle.icescan_audit.specs.Premises.{HasHonestFiles, HasTrueSummaries};
 ghost use Rattle.icescan_audit.specs.Strays.{DanglesUnder, NamesNoneUnder};
 ghost use Rattle.icescan_audit.specs.Subjects.{subject_of};
+ghost use Rattle.icescan_audit.specs.Totals.{IsFalseUnder};
+ghost use Rattle.icescan_audit_findings.specs.declared.totals.FalseTotal.{FalseTotal};
 ghost use Rattle.icescan_audit.specs.declared.audit.Audit.{Audit};
 ghost use Rattle.icescan_audit.specs.declared.subject.Subject.{Subject};
 ghost use Rattle.ice_manifest_reading.specs.declared.row.Row.{Row};
@@ -35,6 +37,16 @@ pub fn audits_tell_of_files()
     ensures { (world : World) (metadata : List ℕ) (target : Target) (audit : Audit) →
         audit_of world metadata target ≡ Ok audit → faults audit.findings ≡ [] →
         HasHonestFiles world metadata target }
+{}
+
+/// The audit of a snapshot tells a total of the snapshot's summary as false just where the summary says it so, and the
+/// live files of the snapshot come to this other number.
+pub fn audits_tell_of_totals()
+    ensures { (world : World) (metadata : List ℕ) (target : Target) (audit : Audit) (subject : Subject)
+        (rows : List Row) (x : FalseTotal) → audit_of world metadata target ≡ Ok audit →
+        subject_of metadata target ≡ Ok subject → rows_at world subject.list ≡ Ok rows →
+        Contains audit.false_totals x
+        ↔ IsFalseUnder world subject.basis.specs rows subject.said x }
 {}
 
 /// The audit of a snapshot has a finding that a delete file dangles just where a live delete file of that path, under

@@ -11,10 +11,15 @@ mod manifests;
 mod running;
 mod running_json;
 mod subject;
+mod summary;
 
 pub use audit::{Audit, Reading};
-pub use icescan_audit_findings::{Basis, Finding, Flaw, LiveFile, TypedColumn};
-pub use laws::{audits_tell_of_deletes, audits_tell_of_files, audits_tell_of_summaries};
+pub use icescan_audit_findings::{
+    Basis, FalseTotal, Finding, Flaw, LiveFile, SaidTotal, Total, TypedColumn, TypedColumns,
+};
+pub use laws::{
+    audits_tell_of_deletes, audits_tell_of_files, audits_tell_of_summaries, audits_tell_of_totals,
+};
 pub use running::{audit_file, run_audit};
 pub use running_json::audit_file_json;
 pub use subject::{Subject, select_subject};

@@ -4,12 +4,15 @@ ghost use Rattle.std.specs.Prelude.{◌≡◌, ◌++◌, [], OnOk, IfOk};
 ghost use Rattle.std.specs.List.{flat_map};
 ghost use Rattle.icescan_audit.specs.Texts.{audit_text, count_name, file_text, finding_end, finding_text, flaw_end};
 ghost use Rattle.icescan_audit.specs.Texts.{column_flaw_name, entry_flaw_name, field_flaw_name, flaw_name};
-ghost use Rattle.icescan_audit.specs.Texts.{row_flaw_name, totals_text};
+ghost use Rattle.icescan_audit.specs.Texts.{number_of_findings, row_flaw_name, text_end, total_text, totals_text};
 ghost use Rattle.icescan_print.specs.Written.{Sent, Wrote};
 
 use crate::audit::Audit;
+use crate::summary::total_name;
 use contract_words::Items;
-use icescan_audit_findings::{ColumnFlaw, Count, EntryFlaw, FieldFlaw, Finding, Flaw, RowFlaw};
+use icescan_audit_findings::{
+    ColumnFlaw, Count, EntryFlaw, FalseTotal, FieldFlaw, Finding, Flaw, RowFlaw,
+};
 use icescan_print::{Page, Sink, SinkFault, put_named_number};
 use itoa::Integer;
 use shared_value::Shared;
@@ -155,6 +158,35 @@ fn put_finding<S: Sink>(page: &mut Page, sink: &mut S, finding: &Finding) -> Res
     put_finding_end(page, sink, finding)
 }
 
+/// How many findings an audit has, false totals among them.
+pub fn number_of_findings(audit: &Audit) -> u128
+    ensures { result ≡ number_of_findings audit.now }
+{
+    audit.findings.as_slice().len() as u128 + audit.false_totals.as_slice().len() as u128
+}
+
+/// Puts the line of a false total.
+#[tactic(auto, unfolding(crate::specs::Texts::total_text))]
+fn push_false_total(text: &mut Vec<u8>, total: &FalseTotal) -> Result<(), AllocError>
+    ensures { OnOk result (text.new.items ≡ text.old.items ++ total_text total.now) }
+{
+    text.extend_from_slice(b"finding ")?;
+    text.extend_from_slice(total_name(total.total).as_bytes())?;
+    push_number(text, b" says ", total.said)?;
+    push_number(text, b" counted ", total.counted)?;
+    text.extend_from_slice(b"\n")
+}
+
+/// Puts the lines of false totals.
+fn push_false_totals(text: &mut Vec<u8>, totals: &[FalseTotal]) -> Result<(), AllocError>
+    ensures { OnOk result (text.new.items ≡ text.old.items ++ flat_map total_text totals.now) }
+{
+    'totals: for total in totals {
+        push_false_total(text, total)?;
+    }
+    Ok(())
+}
+
 /// Puts the last line of an audit.
 #[tactic(auto, unfolding(crate::specs::Texts::totals_text))]
 fn push_totals(text: &mut Vec<u8>, audit: &Audit) -> Result<(), AllocError>
@@ -162,15 +194,16 @@ fn push_totals(text: &mut Vec<u8>, audit: &Audit) -> Result<(), AllocError>
 {
     push_number(text, b"manifests ", audit.manifests)?;
     push_number(text, b" entries ", audit.entries)?;
-    push_number(text, b" findings ", audit.findings.as_slice().len())?;
+    push_number(text, b" findings ", number_of_findings(audit))?;
     text.extend_from_slice(b"\n")
 }
 
-/// The last line of an audit.
-pub fn totals_of(alloc: Global, audit: &Audit) -> Result<Vec<u8>, AllocError>
-    ensures { IfOk result (λ text. text.items ≡ totals_text audit.now) }
+/// What stands behind the findings of an audit: the lines of false totals, and the last line.
+pub fn end_of(alloc: Global, audit: &Audit) -> Result<Vec<u8>, AllocError>
+    ensures { IfOk result (λ text. text.items ≡ text_end audit.now) }
 {
     let mut text = Vec::new(alloc);
+    push_false_totals(&mut text, audit.false_totals.as_slice())?;
     push_totals(&mut text, audit)?;
     Ok(text)
 }
@@ -190,32 +223,32 @@ fn put_findings<S: Sink>(
     Ok(())
 }
 
-/// Sends the text of an audit, whose last line this is.
+/// Sends the text of an audit, whose end this is.
 #[tactic(auto, unfolding(crate::specs::Texts::audit_text))]
 fn put_audit<S: Sink>(
     page: &mut Page,
     sink: &mut S,
     audit: &Audit,
-    totals: &[u8],
+    end: &[u8],
 ) -> Result<(), SinkFault>
-    requires { totals.now ≡ totals_text audit.now }
+    requires { end.now ≡ text_end audit.now }
     ensures { Sent S.taken S.may_fail sink.old page.old result sink.new page.new (audit_text audit.now) }
 {
     put_findings(page, sink, audit.findings.as_slice())?;
-    page.put(sink, totals)
+    page.put(sink, end)
 }
 
-/// Writes the text of an audit, whose last line this is, by a page on which nothing waits. It takes no memory.
+/// Writes the text of an audit, whose end this is, by a page on which nothing waits. It takes no memory.
 pub fn write_audit<S: Sink>(
     page: &mut Page,
     sink: &mut S,
     audit: &Audit,
-    totals: &[u8],
+    end: &[u8],
 ) -> Result<(), SinkFault>
     requires page { page.old ≡ [] }
-    requires totals { totals.now ≡ totals_text audit.now }
+    requires end { end.now ≡ text_end audit.now }
     ensures { Wrote S.taken S.may_fail sink.old result sink.new (audit_text audit.now) }
 {
-    put_audit(page, sink, audit, totals)?;
+    put_audit(page, sink, audit, end)?;
     page.flush(sink)
 }

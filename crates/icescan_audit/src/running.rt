@@ -12,7 +12,7 @@ ghost use Rattle.icescan_text.specs.Reads.{MayEnd};
 use crate::audit::Audit;
 use crate::by_workers::audit_rows_by_workers;
 use crate::laws::audits_tell_of_summaries;
-use crate::lines::{totals_of, write_audit};
+use crate::lines::{end_of, write_audit};
 use crate::manifests::check_specs;
 use crate::subject::{Subject, select_subject};
 use ice_desk::Files;
@@ -42,12 +42,12 @@ pub(crate) fn audit_table<R: Threads + Sync, F: Files + Sync>(
     ensures stops { IfErr result (MayStop (F.world files.now) (F.may_fail files.now) ⊥) }
 {
     let subject = select_subject(alloc, metadata, target)?;
-    let Subject { list, basis } = subject;
+    let Subject { list, basis, said } = subject;
     let rows = read_rows(alloc, files, list.as_str())?;
     check_specs(basis.specs.as_slice(), &rows)?;
     let basis = basis.among(&rows);
     let read = audit_rows_by_workers(rt, alloc, files, &basis, &rows, workers)?;
-    Ok(read.whole(alloc)?)
+    Ok(read.whole(alloc, said.as_slice())?)
 }
 
 /// Audits a snapshot of the table whose metadata these are the bytes of: reads each of its manifests, also those that
@@ -93,9 +93,9 @@ pub fn run_audit<R: Threads + Sync, F: Files + Sync, W: Sink>(
 {
     audits_tell_of_summaries();
     let audit = audit_table(rt, alloc, files, metadata, target, workers)?;
-    let totals = totals_of(alloc, &audit)?;
+    let end = end_of(alloc, &audit)?;
     let mut page = Page::new(alloc)?;
-    write_audit(&mut page, output, &audit, &totals)?;
+    write_audit(&mut page, output, &audit, &end)?;
     Ok(count_faults(audit.findings.as_slice()))
 }
 

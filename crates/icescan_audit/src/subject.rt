@@ -5,11 +5,13 @@ ghost use Rattle.contract_words.specs.Outcome.{Gives};
 ghost use Rattle.icescan_audit.specs.Subjects.{IsOfMetadata, column_ids, number_under, subject_in, subject_of};
 ghost use Rattle.icescan_audit.specs.Subjects.{typed_columns};
 ghost use Rattle.ice_meta.specs.Targets.{resolved};
+ghost use Rattle.serde_json.specs.View.{view};
 
+use crate::summary::said_totals;
 use contract_words::{Items, Text};
 use ice_meta::{Metadata, Schema, Target};
 use ice_value::SequenceNumber;
-use icescan_audit_findings::{Basis, TypedColumn};
+use icescan_audit_findings::{Basis, SaidTotal, TypedColumn, TypedColumns};
 use icescan_text::RunFault;
 use std::alloc::{AllocError, Global};
 
@@ -20,6 +22,8 @@ pub struct Subject {
     pub list: Text,
     /// What its entries are held against, before the rows of the list are known.
     pub basis: Basis,
+    /// The totals of its live files that its summary says.
+    pub said: Items<SaidTotal>,
 }
 
 /// The ids of a schema's columns.
@@ -35,11 +39,11 @@ fn column_ids(alloc: Global, schema: &Schema) -> Result<Items<i32>, AllocError>
 }
 
 /// A schema's columns, with the types of their values.
-fn typed_columns(alloc: Global, schema: &Schema) -> Result<Items<TypedColumn>, AllocError>
-    ensures { IfOk result (λ columns. columns ≡ typed_columns schema.now) }
+fn columns_of(alloc: Global, schema: &Schema) -> Result<Vec<TypedColumn>, AllocError>
+    ensures { IfOk result (λ columns. columns.items ≡ typed_columns schema.now) }
 {
     let columns = schema.columns.as_slice();
-    let mut typed = Items::new(alloc);
+    let mut typed = Vec::new(alloc);
     'columns: for column in columns {
         typed.push(TypedColumn {
             id: column.id,
@@ -47,6 +51,14 @@ fn typed_columns(alloc: Global, schema: &Schema) -> Result<Items<TypedColumn>, A
         })?;
     }
     Ok(typed)
+}
+
+/// The same, with what finds them by their ids.
+fn typed_columns(alloc: Global, schema: &Schema) -> Result<TypedColumns, AllocError>
+    ensures { IfOk result (λ columns. columns ≡ typed_columns schema.now) }
+{
+    let columns = columns_of(alloc, schema)?;
+    TypedColumns::new(alloc, columns)
 }
 
 /// The sequence number of a snapshot; the table's last where there is no such snapshot.
@@ -67,7 +79,8 @@ fn number_of(metadata: &Metadata, target: &Target) -> SequenceNumber
 /// and for a snapshot's id. The refusal is `Metadata` where there is no such snapshot; or `Memory`.
 #[tactic(auto, unfolding(crate::specs::Subjects::subject_in))]
 fn subject_in(alloc: Global, metadata: &Metadata, target: &Target) -> Result<Subject, RunFault>
-    ensures gives { Gives RunFault.Memory (λ subject. subject) result (subject_in metadata.now.table target.now) }
+    ensures gives { Gives RunFault.Memory (λ subject. subject) result
+        (subject_in (view metadata.now.json) metadata.now.table target.now) }
     ensures causes { IfErr result IsOfMetadata }
 {
     let list = metadata.manifest_list(target)?;
@@ -83,6 +96,7 @@ fn subject_in(alloc: Global, metadata: &Metadata, target: &Target) -> Result<Sub
     Ok(Subject {
         list: list.copy(alloc)?,
         basis,
+        said: said_totals(alloc, metadata, target)?,
     })
 }
 

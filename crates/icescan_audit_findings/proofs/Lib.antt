@@ -17,6 +17,7 @@ pub mod LastSaid
 pub mod AmongPairs
 pub mod ColumnsTold
 pub mod Miscounts
+pub mod Totalled
 pub mod Little
 pub mod Standing
 pub mod Keyed

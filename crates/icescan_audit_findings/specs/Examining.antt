@@ -16,6 +16,9 @@ use Rattle.icescan_audit_findings.specs.Spelling.{odd_spelling}
 abbrev pub examined : Basis → Row → List FieldLimits → Live → Examined
 examined basis row limits l = record {
   path = l.entry.file.path;
+  content = l.entry.file.content;
+  record_count = l.entry.file.record_count;
+  file_size = l.entry.file.file_size;
   flaws = live_flaws basis row limits l;
   key = key_of basis l.entry;
 }
@@ -29,4 +32,12 @@ findings_on row x = map (finding_at row x.path) x.flaws
 
 -- the file of an entry
 abbrev pub file_at : Row → Examined → LiveFile
-file_at row x = record { path = x.path; spelling = odd_spelling x.path; manifest = row.path; key = x.key }
+file_at row x = record {
+  path = x.path;
+  spelling = odd_spelling x.path;
+  manifest = row.path;
+  content = x.content;
+  record_count = x.record_count;
+  file_size = x.file_size;
+  key = x.key;
+}

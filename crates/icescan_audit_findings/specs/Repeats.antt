@@ -20,6 +20,9 @@ live_file basis row x = record {
   path = x.file.path;
   spelling = odd_spelling x.file.path;
   manifest = row.path;
+  content = x.file.content;
+  record_count = x.file.record_count;
+  file_size = x.file.file_size;
   key = key_of basis x;
 }
 

@@ -5,6 +5,7 @@ ghost use Rattle.std.specs.Option.{option_copied};
 ghost use Rattle.ice_state.specs.Specs.{spec_of};
 ghost use Rattle.icescan_audit_findings.specs.Bases.{among, has_content_of_deletes, have_deletes};
 
+use crate::typed_columns::TypedColumns;
 use contract_words::Items;
 use ice_manifest_reading::{ManifestContent, Row};
 use ice_meta::Spec;
@@ -27,7 +28,7 @@ pub struct Basis {
     /// The ids of the schema's columns.
     pub columns: Items<i32>,
     /// The schema's columns.
-    pub typed: Items<TypedColumn>,
+    pub typed: TypedColumns,
     /// The number of the table's last change.
     pub last: SequenceNumber,
     /// The number of the snapshot.

@@ -86,6 +86,7 @@ fn rising_maps<'a, 'd>(bounds: &'a FileBounds<'_, 'd>) -> Option<RisingMaps<'a, 
 }
 
 /// What the maps say of a column.
+#[inline(always)]
 fn column_found<'d>(maps: &mut RisingMaps<'_, 'd>, column: i32) -> ColumnSaid<'d>
     ensures said { (file : FileBounds) → AreMapsOf file maps.old → IsSaidOf file column result }
     ensures same { (file : FileBounds) → AreMapsOf file maps.old → AreMapsOf file maps.new }
@@ -160,11 +161,22 @@ fn is_of_bytes(column_type: &ColumnType) -> bool
     )
 }
 
+/// Whether the first byte tells that the first bytes come before the others.
+#[inline(always)]
+fn begin_before(low: &[u8], high: &[u8]) -> bool
+    ensures { result ≡ true → is_gt (slice_cmp nat_cmp low.now high.now) ≡ false }
+{
+    match (low, high) {
+        ([first, ..], [other, ..]) => first < other,
+        _ => false,
+    }
+}
+
 /// Whether the first bytes come behind the others.
 fn is_behind(low: &[u8], high: &[u8]) -> bool
     ensures { result ≡ is_gt (slice_cmp nat_cmp low.now high.now) }
 {
-    matches!(low.cmp(high), Ordering::Greater)
+    !begin_before(low, high) && matches!(low.cmp(high), Ordering::Greater)
 }
 
 /// Whether the bytes of bounds tell that the lower one is not above the upper one, without reading a value.

@@ -97,6 +97,9 @@ fn push_entries(
     'entries: for entry in entries {
         let Examined {
             path,
+            content,
+            record_count,
+            file_size,
             flaws,
             key,
             ..
@@ -114,6 +117,9 @@ fn push_entries(
             path,
             spelling,
             manifest: manifest.share()?,
+            content,
+            record_count,
+            file_size,
             key,
         })?;
     }

@@ -5,8 +5,6 @@ ghost use Rattle.contract_words.specs.Outcome.{Gives};
 ghost use Rattle.icescan_audit_findings.specs.Coverage.{row_limits};
 ghost use Rattle.icescan_audit_findings.specs.Examining.{examined};
 ghost use Rattle.icescan_audit_findings.specs.FieldFlaws.{sources_of};
-ghost use Rattle.icescan_audit_findings.specs.Ids.{Rises};
-ghost use Rattle.icescan_audit_findings.specs.Places.{HasPlaces};
 ghost use Rattle.ice_manifest_reading.specs.Manifests.{live_of};
 ghost use Rattle.ice_manifest_reading.specs.Tallying.{tallies_of};
 ghost use Rattle.ice_manifest_reading.specs.Telling.{told_of};
@@ -17,12 +15,11 @@ use crate::fields::{SourceField, sources_of};
 use crate::file_key::{KeptKey, key_of};
 use crate::finding::Flaw;
 use crate::flaws::{flaws_of, push_further_flaws};
-use crate::ids::rising_ids;
 use crate::limits::{FieldLimits, row_limits};
-use crate::places::{found_by_id, places_by_id};
 use contract_words::Items;
 use ice_manifest_reading::{Live, ManifestFault, Row, Tallied, Tell, read_tallied};
 use ice_meta::Spec;
+use ice_value::FileContent;
 use std::alloc::{AllocError, Global};
 
 /// A live entry as an audit looks at it.
@@ -30,6 +27,11 @@ use std::alloc::{AllocError, Global};
 pub struct Examined {
     /// The path of its file.
     pub path: Items<u8>,
+    /// What it holds.
+    pub content: FileContent,
+    /// How many rows and bytes it has, as its manifest says.
+    pub record_count: i64,
+    pub file_size: i64,
     /// What is wrong with it.
     pub flaws: Items<Flaw>,
     /// What delete files go by, where the snapshot has some.
@@ -68,31 +70,28 @@ impl<'a> Tell for Against<'a> {
         )?;
         Ok(Examined {
             path: Items::from_vec(entry.path.to_vec(alloc)?),
+            content: entry.content,
+            record_count: entry.record_count,
+            file_size: entry.file_size,
             flaws: Items::from_vec(flaws),
             key: key_of(alloc, self.basis, &entry)?,
         })
     }
 }
 
-/// What live entries are held against, with the columns' places by their ids.
+/// What live entries are held against.
 fn held_against<'x>(
     basis: &'x Basis,
     row: &'x Row,
     limits: &'x [FieldLimits],
-    ids: &'x [i32],
-    by_id: &'x [(i32, usize)],
     fields: &'x [SourceField],
 ) -> Against<'x>
-    requires rises { Rises ids.now }
-    requires places { HasPlaces basis.now.typed by_id.now }
     requires sources { fields.now ≡ sources_of basis.now row.now }
     ensures basis { result.basis.now ≡ basis.now }
     ensures row { result.row.now ≡ row.now }
     ensures limits { result.limits.now ≡ limits.now }
 {
-    let all = basis.typed.as_slice();
-    let places = found_by_id(all, by_id);
-    let columns = SchemaColumns { all, ids, places };
+    let columns = basis.typed.lent();
     Against {
         basis,
         row,
@@ -117,17 +116,8 @@ pub fn examine(
     ensures tallies { IfOk result (λ found. found.tallies ≡ tallies_of bytes.now) }
 {
     let limits = row_limits(alloc, spec, row)?;
-    let ids = rising_ids(alloc, basis.typed.as_slice())?;
-    let by_id = places_by_id(alloc, basis.typed.as_slice())?;
     let fields = sources_of(alloc, basis, row)?;
     let allowed = limits.as_slice();
-    let against = held_against(
-        basis,
-        row,
-        allowed,
-        ids.as_slice(),
-        by_id.as_slice(),
-        fields.as_slice(),
-    );
+    let against = held_against(basis, row, allowed, fields.as_slice());
     read_tallied(alloc, row, spec, &against, bytes)
 }

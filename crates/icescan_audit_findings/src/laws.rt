@@ -14,9 +14,12 @@ ghost use Rattle.icescan_audit_findings.specs.Honesty.{IsHonestByMetadata};
 ghost use Rattle.icescan_audit_findings.specs.RowFlaws.{has_row_flaw, row_findings};
 ghost use Rattle.icescan_audit_findings.specs.Telling.{Dangles, HasEntry, IsMiscounted, IsSaid, NamesNone, faults};
 ghost use Rattle.icescan_audit_findings.specs.Telling.{uncovered};
+ghost use Rattle.icescan_audit_findings.specs.Totals.{IsFalse, false_totals};
 ghost use Rattle.icescan_audit_findings.specs.declared.basis.Basis.{Basis};
 ghost use Rattle.icescan_audit_findings.specs.declared.finding.Count.{Count};
 ghost use Rattle.icescan_audit_findings.specs.declared.repeats.LiveFile.{LiveFile};
+ghost use Rattle.icescan_audit_findings.specs.declared.totals.FalseTotal.{FalseTotal};
+ghost use Rattle.icescan_audit_findings.specs.declared.totals.SaidTotal.{SaidTotal};
 ghost use Rattle.ice_manifest_reading.specs.Manifests.{live_of};
 ghost use Rattle.ice_manifest_reading.specs.declared.entry.Live.{Live};
 ghost use Rattle.ice_manifest_reading.specs.declared.row.Row.{Row};
@@ -111,6 +114,13 @@ pub fn findings_tell_counts()
     ensures { (basis : Basis) (row : Row) (spec : Spec) (tallies : Tallies) (lives : List Live) (count : Count) →
         Contains (manifest_findings basis row spec tallies lives) (manifest_finding row (Flaw.Miscounted count))
         ↔ IsMiscounted row.counts tallies count }
+{}
+
+/// A total of a snapshot's summary is told as false just where the summary says it so, and the live files come to this
+/// other number.
+pub fn findings_tell_totals()
+    ensures { (files : List LiveFile) (said : List SaidTotal) (x : FalseTotal) →
+        Contains (false_totals files said) x ↔ IsFalse files said x }
 {}
 
 /// There is a finding that a delete file dangles just where a live delete file of that path, in that manifest, applies

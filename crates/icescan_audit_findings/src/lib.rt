@@ -21,6 +21,8 @@ mod places;
 mod repeats;
 mod rows;
 mod spelling;
+mod totals;
+mod typed_columns;
 
 pub use basis::{Basis, TypedColumn};
 pub use deletes::push_delete_findings;
@@ -29,8 +31,10 @@ pub use file_key::{FileKey, KeptKey};
 pub use finding::{ColumnFlaw, Count, EntryFlaw, FieldFlaw, Finding, Flaw, RowFlaw, count_faults};
 pub use laws::{
     faultless_files_are_honest, findings_tell_applying, findings_tell_columns,
-    findings_tell_counts, findings_tell_coverage, findings_tell_entries, limits_tell_coverage,
-    repeats_tell_paths_apart,
+    findings_tell_counts, findings_tell_coverage, findings_tell_entries, findings_tell_totals,
+    limits_tell_coverage, repeats_tell_paths_apart,
 };
 pub use repeats::{LiveFile, push_repeats};
 pub use rows::push_row_findings;
+pub use totals::{FalseTotal, SaidTotal, Total, false_totals};
+pub use typed_columns::TypedColumns;

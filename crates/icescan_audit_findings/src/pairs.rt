@@ -42,19 +42,31 @@ fn is_gap<T>(pairs: &[(i32, T)], place: usize, id: i32) -> bool
     is_behind(pairs, place, id) && is_before(pairs, place, id)
 }
 
-/// The place of an id among those of pairs, which rise; quicker where it is this one, or would be.
+/// The place of an id among those of pairs, which rise; quicker where there is none, and this would be its place.
+#[inline(never)]
+fn place_searched<T>(pairs: &[(i32, T)], near: usize, id: i32) -> Option<usize>
+    requires { AreRising pairs.now }
+    ensures there { IfSome result (IsOf pairs.now id) }
+    ensures absent { IfNone result (HasNone pairs.now id) }
+{
+    if is_gap(pairs, near, id) {
+        None
+    } else {
+        pairs.binary_search_by_key(&id, |pair| pair.0).ok()
+    }
+}
+
+/// The same; quickest where it is this one.
+#[inline(always)]
 fn place_among<T>(pairs: &[(i32, T)], near: usize, id: i32) -> Option<usize>
     requires { AreRising pairs.now }
     ensures there { IfSome result (IsOf pairs.now id) }
     ensures absent { IfNone result (HasNone pairs.now id) }
 {
     if near < pairs.len() && pairs[near].0 == id {
-        Some(near)
-    } else if is_gap(pairs, near, id) {
-        None
-    } else {
-        pairs.binary_search_by_key(&id, |pair| pair.0).ok()
+        return Some(near);
     }
+    place_searched(pairs, near, id)
 }
 
 /// Pairs of an id and what is said of it, whose ids rise.
@@ -91,6 +103,7 @@ impl<'a, T: Copy> RisingPairs<'a, T> {
     }
 
     /// What the pairs say of an id. It is found quickest where it comes next behind the one that was found before.
+    #[inline(always)]
     pub fn said_of(&mut self, id: i32) -> Option<T>
         ensures said { result ≡ last_of id self.old.pairs.now }
         ensures same { self.new.pairs ≡ self.old.pairs }

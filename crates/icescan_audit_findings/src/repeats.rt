@@ -9,6 +9,7 @@ ghost use Rattle.icescan_audit_findings.specs.Repeats.{repeats_in, spelling_of};
 use crate::file_key::KeptKey;
 use crate::finding::{Finding, Flaw};
 use contract_words::{Items, Text};
+use ice_value::FileContent;
 use shared_value::Shared;
 use std::alloc::{AllocError, Global};
 use std::collections::HashSet;
@@ -22,6 +23,11 @@ pub struct LiveFile {
     pub spelling: Option<Items<u8>>,
     /// The path of the manifest that has its entry.
     pub manifest: Shared<Text>,
+    /// What it holds.
+    pub content: FileContent,
+    /// How many rows and bytes it has, as its manifest says.
+    pub record_count: i64,
+    pub file_size: i64,
     /// What delete files go by, where the snapshot has some.
     pub key: KeptKey,
 }

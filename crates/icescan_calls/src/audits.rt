@@ -8,13 +8,14 @@ ghost use Rattle.ice_manifest_reading.specs.Tallying.{tallies_of};
 ghost use Rattle.icescan_audit_findings.specs.Dangling.{delete_findings};
 ghost use Rattle.icescan_audit_findings.specs.Findings.{manifest_findings};
 ghost use Rattle.icescan_audit_findings.specs.RowFlaws.{row_findings};
+ghost use Rattle.icescan_audit_findings.specs.Totals.{false_totals};
 ghost use Rattle.icescan_audit.specs.AnyFiles.{WritesAnAudit};
 
 use contract_words::Items;
 use ice_desk::Files;
 use ice_manifest_reading::{ManifestFault, Row};
 use ice_meta::{Spec, Target};
-use icescan_audit_findings::{Basis, Finding, LiveFile};
+use icescan_audit_findings::{Basis, FalseTotal, Finding, LiveFile, SaidTotal};
 use icescan_print::Sink;
 use icescan_text::RunFault;
 use std::alloc::{AllocError, Global};
@@ -91,6 +92,17 @@ pub fn delete_findings(alloc: Global, files: &[LiveFile]) -> Result<Items<Findin
     let mut findings = Items::new(alloc);
     icescan_audit_findings::push_delete_findings(alloc, &mut findings, files)?;
     Ok(findings)
+}
+
+/// Those of the totals of a snapshot's summary that its live files do not come to.
+pub fn false_totals(
+    alloc: Global,
+    said: &[SaidTotal],
+    files: &[LiveFile],
+) -> Result<Items<FalseTotal>, AllocError>
+    ensures { IfOk result (λ found. found ≡ false_totals files.now said.now) }
+{
+    icescan_audit_findings::false_totals(alloc, said, files)
 }
 
 /// Audits a snapshot of the table whose metadata is in the file at a path.

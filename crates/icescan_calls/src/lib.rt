@@ -7,5 +7,7 @@ mod audits;
 mod texts;
 
 pub use answers::{commit_below, delete_changes, file_fate, is_unchanged, show_below};
-pub use audits::{audit_file, delete_findings, live_files, manifest_findings, row_findings};
+pub use audits::{
+    audit_file, delete_findings, false_totals, live_files, manifest_findings, row_findings,
+};
 pub use texts::{send_plan, write_all};

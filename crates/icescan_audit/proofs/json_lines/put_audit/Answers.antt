@@ -10,4 +10,4 @@ returns-in_err-put_findings g c = sent_less _ _ _ _ _ _ _ _ _ _ _ c.from_residua
 pub returns : goal.returns
 unfolding audit_objects
 returns g c = sent_more _ _ _ _ _ _ _ _ _ _ _ _ (rw c.as_slice.ensures at c.in_ok-put_findings.ensures)
-    c.put_totals.ensures
+    c.put_end.ensures

@@ -14,7 +14,7 @@ returns-clause-positions c = λ world metadata target audit subject rows manifes
     let fit = c.contents_fit.ensures in
     subst (λ (a : Audit). Contains a.findings (at manifest path DanglingPositions)
     ↔ DanglesUnder PositionDeletes world subject.basis.specs rows manifest path) r.2
-    (dangling_told fit.content fit.referenced world subject.basis rows r.0 r.1 manifest path PositionDeletes (λ h. cc)
+    (dangling_told fit.content fit.referenced world subject.basis rows r.0 subject.said r.1 manifest path PositionDeletes (λ h. cc)
     (λ h. cc) refl)
 
 pub returns-clause-equalities : goal.returns-clause-equalities
@@ -23,7 +23,7 @@ returns-clause-equalities c = λ world metadata target audit subject rows manife
     let fit = c.contents_fit.ensures in
     subst (λ (a : Audit). Contains a.findings (at manifest path DanglingEqualities)
     ↔ DanglesUnder EqualityDeletes world subject.basis.specs rows manifest path) r.2
-    (dangling_told fit.content fit.referenced world subject.basis rows r.0 r.1 manifest path EqualityDeletes (λ h. cc)
+    (dangling_told fit.content fit.referenced world subject.basis rows r.0 subject.said r.1 manifest path EqualityDeletes (λ h. cc)
     (λ h. cc) refl)
 
 pub returns-clause-named : goal.returns-clause-named
@@ -32,4 +32,4 @@ returns-clause-named c = λ world metadata target audit subject rows manifest pa
     let fit = c.contents_fit.ensures in
     subst (λ (a : Audit). Contains a.findings (at manifest path NamedNotLive)
     ↔ NamesNoneUnder world subject.basis.specs rows manifest path) r.2
-    (named_told fit.content fit.referenced world subject.basis rows r.0 r.1 manifest path)
+    (named_told fit.content fit.referenced world subject.basis rows r.0 subject.said r.1 manifest path)

@@ -1,4 +1,4 @@
-use Rattle.std.proofs.Common.{◌≡◌, ◌∙◌, ℕ, ℤ, List, ap, subst, sym}
+use Rattle.std.proofs.Common.{◌≡◌, ◌∙◌, List, ap, subst}
 use Rattle.contract_words.specs.Outcome.{Gives}
 use Rattle.ice_manifest_fields.specs.declared.fault.ManifestFault.TheVariants.{Memory}
 use Rattle.ice_manifest_reading.specs.Manifests.{live_of}
@@ -6,8 +6,6 @@ use Rattle.ice_manifest_reading.specs.Telling.{told_of}
 use Rattle.ice_manifest_reading.specs.declared.entry.Live.{Live}
 use Rattle.ice_manifest_reading.specs.declared.row.Row.{Row}
 use Rattle.icescan_audit_findings.specs.Examining.{examined}
-use Rattle.icescan_audit_findings.specs.Places.{HasPlaces}
-use Rattle.icescan_audit_findings.specs.declared.basis.TypedColumn.{TypedColumn}
 use Rattle.icescan_audit_findings.specs.declared.basis.Basis.{Basis}
 use Rattle.icescan_audit_findings.specs.declared.examined.Examined.{Examined}
 use Rattle.icescan_audit_findings.specs.declared.limits.FieldLimits.{FieldLimits}
@@ -26,9 +24,3 @@ returns-clause-told c =
     ∙ ap (λ (ls : List FieldLimits). examined basis row ls) limits in
     subst (λ (f : Live → Examined). Gives Memory (λ found. found.told.items) c.read_tallied.result (told_of f read)) same
     c.read_tallied.ensures.told
-
-pub held_against-against-requires-clause-places : goal.held_against-against-requires-clause-places
-held_against-against-requires-clause-places c =
-    subst (λ (places : List (ℤ × ℕ)). HasPlaces c.args.basis.now.typed places) (sym c.as_slice-4.ensures.value)
-    (subst (λ (columns : List TypedColumn). HasPlaces columns c.in_ok-by_id.by_id.items) c.as_slice-2.ensures
-    c.in_ok-by_id.ensures)
