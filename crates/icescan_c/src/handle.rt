@@ -88,7 +88,7 @@ impl Handle {
     {
         match self.take(alloc) {
             Some(mut room) => {
-                *room = held;
+                room.set(held);
                 self.put(room);
             }
             None => self.put(Box::new(alloc, held)?),

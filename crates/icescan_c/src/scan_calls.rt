@@ -145,5 +145,5 @@ pub extern "C" fn icescan_fault(alloc: Global, handle: &mut Handle, line: &mut B
 pub extern "C" fn icescan_free(alloc: Global, handle: &mut Handle)
     ensures { handle.new.held ≡ None }
 {
-    let _held = handle.take(alloc);
+    drop(handle.take(alloc));
 }

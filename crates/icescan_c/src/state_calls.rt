@@ -84,12 +84,17 @@ pub extern "C" fn icescan_state_merge(alloc: Global, state: &mut Handle, other: 
 fn absorb(alloc: Global, state: &mut Handle, other: Held) -> u32
     ensures { OnHandle (Merges other) state.old.held result state.new.held }
 {
-    let Some(mut held) = state.take(alloc) else {
-        return status(Err(Refusal::Kind));
-    };
-    let ended = held.absorb(other);
-    state.put(held);
-    status(ended)
+    match state.take(alloc) {
+        Some(mut held) => {
+            let ended = held.absorb(other);
+            state.put(held);
+            status(ended)
+        }
+        None => {
+            drop(other);
+            status(Err(Refusal::Kind))
+        }
+    }
 }
 
 /// Takes over what another state of the same scan took. The other handle holds nothing then, however the call ends.

@@ -34,10 +34,10 @@ impl State {
     pub fn new(alloc: Global, scan: &SharedScan) -> Result<State, AllocError>
         ensures { IfOk result (λ state. state ≡ untaken scan.now) }
     {
-        let partial = Partial::empty(alloc, scan.scan())?;
+        let shared = scan.share()?;
         Ok(State {
-            scan: scan.share()?,
-            partial,
+            partial: Partial::empty(alloc, scan.scan())?,
+            scan: shared,
         })
     }
 
@@ -71,9 +71,12 @@ impl State {
         ensures { TakesOver self.old other result self.new }
     {
         if !self.scan.is_same(&other.scan) {
+            drop(other);
             return Err(Refusal::OtherScan);
         }
-        self.partial.absorb(other.partial)?;
+        let State { scan, partial } = other;
+        drop(scan);
+        self.partial.absorb(partial)?;
         Ok(())
     }
 
@@ -82,6 +85,8 @@ impl State {
         ensures { Gives FinishFault.Memory (λ plan. plan) result (outcome self.scan self.content) }
     {
         let State { scan, partial } = self;
-        partial.into_plan(scan.scan())
+        let plan = partial.into_plan(scan.scan());
+        drop(scan);
+        plan
     }
 }

@@ -1,5 +1,6 @@
 //! Making scans, states and plans of what a handle holds.
 
+ghost use Rattle.std.specs.Prelude.{◌≡◌};
 ghost use Rattle.contract_words.specs.Outcome.{Gives};
 ghost use Rattle.icescan_c.specs.Calls.{Finishes, Merges, Starts, Takes};
 ghost use Rattle.icescan_c.specs.Making.{Holds, Makes, asked, finished, started};
@@ -38,21 +39,30 @@ fn finished(state: State) -> Result<Held, RunFault>
 }
 
 impl Held {
+    /// Holds this from here on.
+    pub(crate) fn set(&mut self, held: Held)
+        ensures { self.new ≡ held }
+    {
+        *self = held;
+    }
+
     /// Holds what was made, or the line of the fault; no bytes where memory ran out for the line.
     fn hold(&mut self, alloc: Global, made: Result<Held, RunFault>) -> Result<(), Refusal>
         ensures { Holds made result self.new }
     {
         match made {
             Ok(held) => {
-                *self = held;
+                self.set(held);
                 Ok(())
             }
             Err(fault) => {
-                *self = Held::Fault(match fault_line(alloc, &fault) {
+                self.set(Held::Fault(match fault_line(alloc, &fault) {
                     Ok(line) => line,
                     Err(_) => Items::from_vec(Vec::new(alloc)),
-                });
-                Err(Refusal::Fault(fault.status()))
+                }));
+                let status = fault.status();
+                drop(fault);
+                Err(Refusal::Fault(status))
             }
         }
     }
@@ -71,7 +81,7 @@ impl Held {
         match replace(self, Held::Nothing) {
             Held::Selection(answer) => self.hold(alloc, started(alloc, answer, list)),
             held => {
-                *self = held;
+                self.set(held);
                 Err(Refusal::Kind)
             }
         }
@@ -104,12 +114,12 @@ impl Held {
     pub fn absorb(&mut self, other: Held) -> Result<(), Refusal>
         ensures { Merges other self.old result self.new }
     {
-        let Held::State(other) = other else {
-            return Err(Refusal::Kind);
-        };
-        match self {
-            Held::State(state) => state.absorb(other),
-            _ => Err(Refusal::Kind),
+        match (self, other) {
+            (Held::State(state), Held::State(other)) => state.absorb(other),
+            (_, other) => {
+                drop(other);
+                Err(Refusal::Kind)
+            }
         }
     }
 
@@ -120,7 +130,7 @@ impl Held {
         match replace(self, Held::Nothing) {
             Held::State(state) => self.hold(alloc, finished(state)),
             held => {
-                *self = held;
+                self.set(held);
                 Err(Refusal::Kind)
             }
         }

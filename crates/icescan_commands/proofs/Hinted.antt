@@ -7,6 +7,7 @@ use Rattle.icescan_progress.proofs.Plain.{nothing_plain}
 use Rattle.icescan_text.specs.declared.fault.RunFault.{RunFault}
 use Rattle.icescan_commands.specs.Runs.{Explained, Given, Left, RanWithHint, RanWithoutHint, Refused, Told}
 use Rattle.icescan_commands.specs.Runs.{ToldWithHint, Wrote, WroteWithNotes, meant}
+use Rattle.icescan_commands.proofs.Beside.{beside_nothing, beside_plain}
 use Rattle.icescan_words.specs.declared.command.Command.{Command}
 
 -- a fault that is told without a hint
@@ -33,7 +34,7 @@ noted : (given : Given) (asked : Result Command RunFault) (text : List ℕ) (lef
 noted given asked text left w = record {
   wrote = record {
     written = w.written;
-    silent = refl;
+    beside = beside_nothing asked given.errors;
     ends = w.ends;
     drilled = w.drilled;
     of_given = w.of_given;
@@ -43,7 +44,7 @@ noted given asked text left w = record {
   noted = record {
     between = given.errors;
     before = nothing_plain given.errors;
-    after = rw w.silent (nothing_plain given.errors);
+    after = beside_plain asked given.errors left.errors w.beside;
   };
 }
 

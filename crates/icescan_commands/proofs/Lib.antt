@@ -1,7 +1,9 @@
 pub mod Answering
+pub mod Beside
 pub mod Committed
 pub mod Hinted
 pub mod Reading
 pub mod Refusals
+pub mod Relaxing
 pub mod Opened
 pub mod Stored

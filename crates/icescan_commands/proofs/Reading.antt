@@ -17,11 +17,13 @@ use Rattle.icescan_text.specs.declared.request.Request.{Request}
 use Rattle.icescan_forms.specs.declared.format.Format.{Format}
 use Rattle.icescan_forms.specs.declared.format.Format.TheVariants as format
 use Rattle.icescan_words.specs.declared.command.Command.TheVariants as command
+use Rattle.icescan_words.specs.declared.command.Relaxed.{Relaxed}
+use Rattle.icescan_words.specs.declared.command.Relaxed.TheVariants as relaxed
 use Rattle.icescan_words.specs.declared.command.Source.{Source}
 use Rattle.icescan_words.specs.declared.command.Source.TheVariants as source
 use Rattle.icescan_commands.specs.Reading.{WroteChanged}
 use Rattle.icescan_commands.specs.Reading.{AreGivenBelow, GivingBelow, WroteAudited, WroteColumns, WroteExplained}
-use Rattle.icescan_commands.specs.Reading.{WroteOfGiven, WrotePlanAt, WroteShown}
+use Rattle.icescan_commands.specs.Reading.{WroteAsked, WroteOfGiven, WrotePlanAt, WroteRelaxed, WroteShown}
 use Rattle.icescan_commands.specs.Runs.{ended}
 
 -- nothing is said
@@ -90,6 +92,19 @@ explain_more gives more wider form path request o o' (metadata, read, (x, is, wr
   (x, more_explanations gives more wider metadata request x is, wrote),
 )
 
+asked_more : (gives more : Giving) → ((path : List ℕ) (found : Option (List ℕ)) → gives path found → more path found)
+    → (what : Relaxed) (form : Format) (path : List ℕ) (request : Request) (o o' : Option (List ℕ))
+    → WroteAsked what form gives path request o o' → WroteAsked what form more path request o o'
+asked_more gives more wider relaxed.Plan form path request o o' w = plan_more gives more wider path request form o o' w
+asked_more gives more wider relaxed.Explanation form path request o o' w =
+    explain_more gives more wider form path request o o' w
+
+relaxed_more : (gives more : Giving) → ((path : List ℕ) (found : Option (List ℕ)) → gives path found → more path found)
+    → (what : Relaxed) (form : Format) (path : List ℕ) (request : Request) (o o' : Option (List ℕ))
+    → WroteRelaxed what form gives path request o o' → WroteRelaxed what form more path request o o'
+relaxed_more gives more wider what form path request o o' (metadata, made, read, is, wrote) =
+    (metadata, made, wider path _ read, is, asked_more gives more wider what form path made.request o o' wrote)
+
 changes_more : (gives more : Giving) → ((path : List ℕ) (found : Option (List ℕ)) → gives path found → more path found)
     → (form : Format) (path : List ℕ) (request : ChangesRequest) (o o' : Option (List ℕ))
     → WroteChanged form gives path request o o' → WroteChanged form more path request o o'
@@ -148,6 +163,14 @@ module _ (below : GivingBelow) where
   explain_below source.Bundle gives wider form path request workers result o o' wrote = any_ok result
   explain_below (source.Folder place) gives wider form path request workers result o o' wrote =
       on_ok_weaker result (explain_more gives (below place.folder place.prefix) wider form path request o o') wrote
+
+  pub relaxed_below : (from : Source) (gives : Giving) → AreGivenBelow below from gives → (what : Relaxed)
+      (form : Format) (path : List ℕ) (request : Request) (workers : ℕ) (result : Result Unit RunFault)
+      (o o' : Option (List ℕ)) → OnOk result (WroteRelaxed what form gives path request o o')
+      → OnOk result (WroteOfGiven below (command.Relaxed what from request form workers path) 0 o o')
+  relaxed_below source.Bundle gives wider what form path request workers result o o' wrote = any_ok result
+  relaxed_below (source.Folder place) gives wider what form path request workers result o o' wrote =
+      on_ok_weaker result (relaxed_more gives (below place.folder place.prefix) wider what form path request o o') wrote
 
   pub changes_below : (from : Source) (gives : Giving) → AreGivenBelow below from gives → (form : Format)
       (path : List ℕ) (request : ChangesRequest) (workers : ℕ) (result : Result Unit RunFault)

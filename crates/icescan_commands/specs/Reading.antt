@@ -1,6 +1,6 @@
 -- What a command over a folder wrote, by what reads below the folder gave: also where files change from one read to the
 -- next.
-use Rattle.std.specs.Prelude.{ℕ, List, Option, Some, Result, Ok, Err}
+use Rattle.std.specs.Prelude.{◌≡◌, ℕ, List, Option, Some, Result, Ok, Err}
 use Rattle.ice_desk.specs.Given.{Giving}
 use Rattle.ice_meta.specs.declared.metadata.Target.{Target}
 use Rattle.icescan_audit.specs.JsonLines.{WroteAnAuditAs}
@@ -10,6 +10,8 @@ use Rattle.icescan_explain.specs.JsonLines.{WroteAnExplanationAs}
 use Rattle.icescan_json.specs.JsonAnswers.{IsTypedListOfGiven, IsTypedOfGivenAt, WroteJsonThat}
 use Rattle.icescan_orphans.specs.Written.{WroteStrays}
 use Rattle.icescan_parts.specs.Kept.{WrotePart}
+use Rattle.icescan_relaxed.specs.Requests.{relaxed_request}
+use Rattle.icescan_relaxed.specs.declared.requests.RelaxedRequest.{RelaxedRequest}
 use Rattle.icescan_requests.specs.GivenPlans.{IsListPlanOfGiven, IsPlanOfGivenAt, WrotePlanThat}
 use Rattle.icescan_requests.specs.Shows.{WroteText, show_of}
 use Rattle.icescan_text.specs.declared.fault.RunFault.{RunFault}
@@ -21,6 +23,8 @@ use Rattle.icescan_words.specs.declared.command.Command.{Command}
 use Rattle.icescan_words.specs.declared.command.Command.TheVariants as command
 use Rattle.icescan_words.specs.declared.command.Lists.TheVariants as lists
 use Rattle.icescan_words.specs.declared.command.Place.{Place}
+use Rattle.icescan_words.specs.declared.command.Relaxed.{Relaxed}
+use Rattle.icescan_words.specs.declared.command.Relaxed.TheVariants as relaxed
 use Rattle.icescan_words.specs.declared.command.Source.{Source}
 use Rattle.icescan_words.specs.declared.command.Source.TheVariants as source
 
@@ -73,6 +77,18 @@ abbrev pub WroteExplained : Format → Giving → List ℕ → Request → Optio
 WroteExplained form gives path request output output' = (metadata : List ℕ) × gives path (Some metadata)
     × WroteAnExplanationAs form gives metadata request output output'
 
+-- the plan that is asked of the table whose metadata is at a path, or that plan explained, in a form
+abbrev pub WroteAsked : Relaxed → Format → Giving → List ℕ → Request → Option (List ℕ) → Option (List ℕ) → Type 0
+WroteAsked relaxed.Plan form gives path request output output' = WrotePlanAt gives path request form output output'
+WroteAsked relaxed.Explanation form gives path request output output' =
+    WroteExplained form gives path request output output'
+
+-- the same under the request's filter, relaxed by metadata that a read of the path gave
+abbrev pub WroteRelaxed : Relaxed → Format → Giving → List ℕ → Request → Option (List ℕ) → Option (List ℕ) → Type 0
+WroteRelaxed what form gives path request output output' = (metadata : List ℕ) × (made : RelaxedRequest)
+    × gives path (Some metadata) × (relaxed_request metadata request ≡ Ok made)
+    × WroteAsked what form gives path made.request output output'
+
 -- the changes that are asked of the table whose metadata is at a path, in a form
 abbrev pub WroteChanged : Format → Giving → List ℕ → ChangesRequest → Option (List ℕ) → Option (List ℕ) → Type 0
 WroteChanged form gives path request output output' = (metadata : List ℕ) × gives path (Some metadata)
@@ -91,6 +107,8 @@ WroteOfGiven below (command.Audit (source.Folder place) target form workers path
     WroteAudited form (given_at below place) path target count output output'
 WroteOfGiven below (command.Explain (source.Folder place) request form workers path) count output output' =
     WroteExplained form (given_at below place) path request output output'
+WroteOfGiven below (command.Relaxed what (source.Folder place) request form workers path) count output output' =
+    WroteRelaxed what form (given_at below place) path request output output'
 WroteOfGiven below (command.Columns (source.Folder place) target form path) count output output' =
     WroteColumns form (given_at below place) path target output output'
 WroteOfGiven below (command.Changes (source.Folder place) request form workers path) count output output' =

@@ -30,12 +30,16 @@ use Rattle.icescan_print.specs.PlanTexts.{plan_text}
 use Rattle.icescan_requests.specs.Shows.{shown_at}
 use Rattle.icescan_print.specs.Written.{Appends, AppendsFront}
 use Rattle.icescan_progress.specs.Hints.{AppendsPlain}
+use Rattle.icescan_relaxed.specs.Requests.{relaxed_request_at}
+use Rattle.icescan_relaxed.specs.declared.requests.RelaxedRequest.{RelaxedRequest}
 use Rattle.ice_state.specs.Contents.{World}
 use Rattle.icescan_words.specs.CommandLines.{ReadAs}
 use Rattle.icescan_forms.specs.declared.format.Format.{Format}
 use Rattle.icescan_forms.specs.declared.format.Format.TheVariants as format
 use Rattle.icescan_words.specs.declared.command.Lists.{Lists}
 use Rattle.icescan_words.specs.declared.command.Lists.TheVariants as lists
+use Rattle.icescan_words.specs.declared.command.Relaxed.{Relaxed}
+use Rattle.icescan_words.specs.declared.command.Relaxed.TheVariants as relaxed
 use Rattle.icescan_words.specs.declared.command.Source.{Source}
 use Rattle.icescan_words.specs.declared.command.Source.TheVariants as source
 use Rattle.icescan_words.specs.declared.command.Command.{Command}
@@ -103,6 +107,23 @@ audit_in form world path target workers = as_answer (as_audit form (audit_at wor
 abbrev pub explain_in : Format → World → List ℕ → Request → ℕ → Result Answer RunFault
 explain_in form world path request workers = as_answer (as_explanation form (explained_at world path request workers))
 
+-- the plan that is asked for, or that plan explained; and the same under the relaxed filter of the request
+abbrev pub asked_in : Relaxed → Format → World → List ℕ → Request → ℕ → Result Answer RunFault
+asked_in relaxed.Plan form world path request workers = plan_in form world path request workers
+asked_in relaxed.Explanation form world path request workers = explain_in form world path request workers
+
+abbrev pub relaxed_in : Relaxed → Format → World → List ℕ → Request → ℕ → Result Answer RunFault
+relaxed_in what form world path request workers =
+    relaxed_request_at world path request >>= λ made. asked_in what form world path made.request workers
+
+-- the paths that it reads: the metadata is read by itself first, to relax the filter
+abbrev pub reads_of_made : World → List ℕ → Result RelaxedRequest RunFault → List (List ℕ)
+reads_of_made world path (Ok made) = path ∷ reads_at world path made.request
+reads_of_made world path (Err fault) = path ∷ []
+
+abbrev pub relaxed_reads_at : World → List ℕ → Request → List (List ℕ)
+relaxed_reads_at world path request = reads_of_made world path (relaxed_request_at world path request)
+
 -- the changes that are asked for, in a form
 abbrev pub changes_in : Format → World → List ℕ → ChangesRequest → ℕ → Result Answer RunFault
 changes_in form world path request workers = as_answer (changes_at form world path request workers)
@@ -126,6 +147,8 @@ answer_to below (command.Audit source target form workers path) input =
     over below source (λ world. audit_in form world path target workers) input
 answer_to below (command.Explain source request form workers path) input =
     over below source (λ world. explain_in form world path request workers) input
+answer_to below (command.Relaxed what source request form workers path) input =
+    over below source (λ world. relaxed_in what form world path request workers) input
 answer_to below (command.Changes source request form workers path) input =
     over below source (λ world. changes_in form world path request workers) input
 answer_to below (command.Locate folder form) input = None
@@ -154,6 +177,8 @@ failing_of below may_fail (command.Audit source target form workers path) write 
     failing_over below may_fail source (λ world. audit_reads_at world path target) write
 failing_of below may_fail (command.Explain source request form workers path) write =
     failing_over below may_fail source (λ world. reads_at world path request) write
+failing_of below may_fail (command.Relaxed what source request form workers path) write =
+    failing_over below may_fail source (λ world. relaxed_reads_at world path request) write
 failing_of below may_fail (command.Changes source request form workers path) write =
     failing_over below may_fail source (λ world. changes_reads_at world path request) write
 failing_of below may_fail (command.Locate folder form) write = failing_unread write
@@ -268,10 +293,16 @@ abbrev pub StoredOfGivenAs : Given → Result Command RunFault → Result Unit R
 StoredOfGivenAs given asked result left =
     IsStoredOfGivenBy asked given.gives given.stored result left.files given.output left.output
 
+-- Beside the answer under a relaxed filter a text without control characters was written to the errors, which says what
+-- was not asked; beside any other answer nothing.
+abbrev pub WroteBeside : Result Command RunFault → Option (List ℕ) → Option (List ℕ) → Type 0
+WroteBeside (Ok (command.Relaxed what source request form workers path)) errors errors' = AppendsPlain errors errors'
+WroteBeside _ errors errors' = errors' ≡ errors
+
 -- the program ended without a fault: it wrote the answer to its output, and nothing else
 pub record Wrote (given : Given) (asked : Result Command RunFault) (text : List ℕ) (left : Left) : Type 0 where
   pub written : IfSome (known_of given asked text) (λ read. WroteAnswer read given.output left.output)
-  pub silent : left.errors ≡ given.errors
+  pub beside : WroteBeside asked given.errors left.errors
   pub ends : EndsWith given.below asked text left.status
   pub drilled : IsOfDrill asked given.output left.output
   -- whatever folders report

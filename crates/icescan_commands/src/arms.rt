@@ -1,11 +1,12 @@
 //! The commands, each as one call over the files of its table.
 
-ghost use Rattle.std.specs.Prelude.{◌≡◌, ℕ, List, Some, None, Ok, Err, IfOk, IfErr, OnOk, option_map, true};
+ghost use Rattle.std.specs.Prelude.{◌≡◌, ℕ, List, Some, None, Ok, Err, IfOk, IfErr, OnErr, OnOk, option_map, true};
 ghost use Rattle.icescan_commands.specs.Answers.{as_answer, plain};
 ghost use Rattle.icescan_commands.specs.Reading.{WroteOfGiven};
 ghost use Rattle.icescan_commands.specs.Runs.{IsCount, Ran, answer_to, ended, failing_of, list_in};
 ghost use Rattle.icescan_commands.specs.Sources.{failing_bundle, failing_unread};
 ghost use Rattle.icescan_commands.specs.Storing.{IsStored, IsStoredOfGiven};
+ghost use Rattle.icescan_progress.specs.Hints.{AppendsPlain};
 ghost use Rattle.icescan_drill.specs.Drills.{WroteDrill};
 ghost use Rattle.icescan_locate.specs.Dated.{WroteDated};
 ghost use Rattle.icescan_locate.specs.Located.{WroteLocated};
@@ -16,10 +17,12 @@ ghost use Rattle.icescan_text.specs.declared.fault.RunFault.{RunFault};
 ghost use Rattle.icescan_words.specs.declared.command.Command.{Command};
 
 use crate::commit_lines::commit_lines;
-use crate::forms::{write_audit, write_changes, write_list_plan, write_plan, write_shown};
+use crate::forms::{
+    write_audit, write_changes, write_list_plan, write_plan, write_relaxed, write_shown,
+};
 use crate::system::System;
 use crate::table_files::{open_files, watched_files};
-use contract_words::Text;
+use contract_words::{Items, Text};
 use ice_meta::Target;
 use icescan_columns::columns_file;
 use icescan_commits::{commit_to, prepare_commit};
@@ -27,13 +30,14 @@ use icescan_drill::{Watch, run_drill};
 use icescan_explain::explain_file;
 use icescan_files::{Bundle, Folders, Stores, read_bundle};
 use icescan_forms::{Format, Part};
+use icescan_hints::put_unasked;
 use icescan_locate::{locate_all, locate_folder};
 use icescan_orphans::{AgedFolders, Search, orphans_file};
 use icescan_parts::part_file;
 use icescan_print::{Sink, write_all};
 use icescan_progress::Progress;
 use icescan_text::{ChangesRequest, CommitRequest, Drill, Request, RunFault};
-use icescan_words::{Command, Lists, Located, Place, Source};
+use icescan_words::{Command, Lists, Located, Place, Relaxed, Source};
 use std::alloc::Global;
 use std::io::Read;
 use std::sync::Wait;
@@ -109,7 +113,7 @@ pub fn plan<H: Threads + Sync, S: Folders + Sync, P: Progress + Sync, R: Read, W
         (W.taken output.new)) }
 {
     let files = open_files(system, table.source, input)?;
-    write_plan(
+    let answer = write_plan(
         system,
         &files,
         table.path.as_str(),
@@ -117,7 +121,9 @@ pub fn plan<H: Threads + Sync, S: Folders + Sync, P: Progress + Sync, R: Read, W
         format,
         workers,
         output,
-    )
+    );
+    drop(files);
+    answer
 }
 
 /// Writes what a table's metadata says, in a form.
@@ -140,7 +146,9 @@ pub fn show<H, S: Folders, P: Progress, R: Read, W: Sink>(
 {
     let files = open_files(system, table.source, input)?;
     let path = table.path.as_str();
-    write_shown(system.alloc, &files, path, format, output)
+    let answer = write_shown(system.alloc, &files, path, format, output);
+    drop(files);
+    answer
 }
 
 /// Writes the columns that a filter of a snapshot of a table names, in a form.
@@ -165,7 +173,9 @@ pub fn columns<H, S: Folders, P: Progress, R: Read, W: Sink>(
 {
     let files = open_files(system, table.source, input)?;
     let path = table.path.as_str();
-    columns_file(system.alloc, &files, path, target, format, output)
+    let answer = columns_file(system.alloc, &files, path, target, format, output);
+    drop(files);
+    answer
 }
 
 /// Writes this part of the files that a table reaches, in a form.
@@ -184,14 +194,16 @@ pub fn reachable<H, S: Folders, P: Progress, R: Read, W: Sink>(
         (W.taken output.new)) }
 {
     let files = open_files(system, table.source, input)?;
-    part_file(
+    let answer = part_file(
         system.alloc,
         &files,
         part,
         format,
         table.path.as_str(),
         output,
-    )
+    );
+    drop(files);
+    answer
 }
 
 /// Writes the files below a folder, older than so many milliseconds, that a table does not reach, in a form.
@@ -252,7 +264,9 @@ pub fn audit<H: Threads + Sync, S: Folders + Sync, P: Progress + Sync, R: Read, 
 {
     let files = open_files(system, table.source, input)?;
     let path = table.path.as_str();
-    write_audit(system, &files, path, target, format, workers, output)
+    let answer = write_audit(system, &files, path, target, format, workers, output);
+    drop(files);
+    answer
 }
 
 /// Writes the plan that is asked of a table, by so many workers, with what became of each manifest and each live file,
@@ -279,7 +293,56 @@ pub fn explain<H, S: Folders, P: Progress, R: Read, W: Sink>(
 {
     let files = open_files(system, table.source, input)?;
     let path = table.path.as_str();
-    explain_file(system.alloc, &files, path, request, workers, format, output)
+    let answer = explain_file(system.alloc, &files, path, request, workers, format, output);
+    drop(files);
+    answer
+}
+
+/// Writes the plan that is asked of a table, or that plan explained, under the request's filter relaxed, in a form and
+/// by so many workers, and gives the predicates that are not asked.
+pub fn relaxed<H: Threads + Sync, S: Folders + Sync, P: Progress + Sync, R: Read, W: Sink>(
+    system: &System<'_, H, S, P>,
+    table: &TableAt<'_>,
+    what: Relaxed,
+    request: &Request,
+    format: Format,
+    workers: usize,
+    input: &mut R,
+    output: &mut W,
+) -> Result<Items<Text>, RunFault>
+    requires { P.may_be_told system.now.progress.now ≡ true }
+    ensures ran { (text : List ℕ) × IsInput (R.remaining input.old) text ×
+        Ran (answer_to (S.below system.now.folders.now)
+        (Command.Relaxed what table.now.source.now request.now format workers table.now.path.now) text)
+        (failing_of (S.below system.now.folders.now) (S.may_fail system.now.folders.now)
+        (Command.Relaxed what table.now.source.now request.now format workers table.now.path.now)
+        (W.may_fail output.old)) (ended result) (W.taken output.old) (W.taken output.new) }
+    ensures given { OnOk (ended result) (WroteOfGiven (S.gives system.now.folders.now)
+        (Command.Relaxed what table.now.source.now request.now format workers table.now.path.now) 0
+        (W.taken output.old) (W.taken output.new)) }
+{
+    let files = open_files(system, table.source, input)?;
+    let path = table.path.as_str();
+    write_relaxed(system, &files, path, what, request, format, workers, output)
+}
+
+/// Writes to `errors` which predicates are not asked, beside an answer that was written.
+pub fn tell_unasked<E: Sink>(
+    alloc: Global,
+    answer: Result<Items<Text>, RunFault>,
+    errors: &mut E,
+) -> Result<(), RunFault>
+    ensures same { result ≡ ended answer }
+    ensures beside { OnOk result (AppendsPlain (E.taken errors.old) (E.taken errors.new)) }
+    ensures untold { OnErr result (errors.new ≡ errors.old) }
+{
+    match answer {
+        Ok(unasked) => {
+            put_unasked(alloc, unasked.as_slice(), errors);
+            Ok(())
+        }
+        Err(fault) => Err(fault),
+    }
 }
 
 /// Writes the changes that are asked of a table, in a form and by so many workers.
@@ -305,7 +368,9 @@ pub fn changes<H: Threads + Sync, S: Folders + Sync, P: Progress + Sync, R: Read
 {
     let files = open_files(system, table.source, input)?;
     let path = table.path.as_str();
-    write_changes(system, &files, path, request, format, workers, output)
+    let answer = write_changes(system, &files, path, request, format, workers, output);
+    drop(files);
+    answer
 }
 
 /// Writes the files of a commit to a table in a bundle, as lines of a bundle.

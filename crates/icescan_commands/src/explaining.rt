@@ -44,10 +44,9 @@ fn hint<L: Looks, F: Files, E: Sink>(
     let (RunFault::Write, Some(request), Some(files)) = (fault, case.commit(), case.files) else {
         return put_hint(alloc, looks, case, fault, None, errors);
     };
-    match prepare_commit(alloc, files, request) {
-        Ok(prepared) => put_hint(alloc, looks, case, fault, Some(&prepared), errors),
-        Err(_) => put_hint(alloc, looks, case, fault, None, errors),
-    }
+    let again = prepare_commit(alloc, files, request).ok();
+    put_hint(alloc, looks, case, fault, again.as_ref(), errors);
+    drop(again);
 }
 
 /// Writes the line of a fault and its hint, and gives the status that the program ends with.
@@ -115,12 +114,16 @@ where
         files: files.as_ref(),
     };
     put_reading(system.alloc, &case, errors);
-    match run_asked(system, asked, stores, input, output) {
+    match run_asked(system, asked, stores, input, output, errors) {
         Ok(count) => {
             put_notes(system.alloc, &case, errors);
             status_of_count(count)
         }
-        Err(fault) => explain(system.host, system.alloc, &case, &fault, errors),
+        Err(fault) => {
+            let status = explain(system.host, system.alloc, &case, &fault, errors);
+            drop(fault);
+            status
+        }
     }
 }
 
@@ -157,8 +160,16 @@ where
         }) }
 {
     match parse_words(system.alloc, words) {
-        Ok(asked) => run_command(system, &asked, stores, input, output, errors),
-        Err(fault) => explain_words(system.alloc, words, &fault, errors),
+        Ok(asked) => {
+            let status = run_command(system, &asked, stores, input, output, errors);
+            drop(asked);
+            status
+        }
+        Err(fault) => {
+            let status = explain_words(system.alloc, words, &fault, errors);
+            drop(fault);
+            status
+        }
     }
 }
 

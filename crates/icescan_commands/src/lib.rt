@@ -24,11 +24,12 @@ pub use icescan_json::{plan_file_json, run_list_plan_json};
 pub use icescan_orphans::{AgedFolders, Search, orphans_file};
 pub use icescan_parts::part_file;
 pub use icescan_progress::{Cleared, Progress, ProgressLine, Screen, Silent, Terminals};
+pub use icescan_relaxed::{RelaxedRequest, relax_request, relax_request_at};
 pub use icescan_requests::{
     Selection, plan_file, plans_of_true_summaries, run_list_plan, run_plan, run_plan_with,
     run_show, select, show_file,
 };
 pub use icescan_text::{CommitRequest, Request};
-pub use icescan_words::{Command, Lists, Located, Place, Source, parse_words};
+pub use icescan_words::{Command, Lists, Located, Place, Relaxed, Source, parse_words};
 pub use system::{System, links_of};
 pub use words::run_words;

@@ -1,10 +1,11 @@
 //! The program over its words, standard input, the folders of a system, output and errors.
 
-ghost use Rattle.std.specs.Prelude.{◌≡◌, ◌⊎◌, ℕ, List, Option, Result, Ok, map, string_bytes, IfOk, OnOk, true};
+ghost use Rattle.std.specs.Prelude.{◌≡◌, ◌⊎◌, ℕ, List, Option, Result, Ok, map, string_bytes, IfOk, OnErr, OnOk};
+ghost use Rattle.std.specs.Prelude.{true};
 ghost use Rattle.icescan_files.specs.Bundles.{IsInput};
 ghost use Rattle.icescan_commands.specs.Reading.{WroteOfGiven, WroteOfGivenBy};
 ghost use Rattle.icescan_commands.specs.Runs.{IsCount, IsCountOf, IsOfDrill, Ran, RanWithoutHint, answer_to, ended};
-ghost use Rattle.icescan_commands.specs.Runs.{failing_of, failing_run, run_of, status_of_count};
+ghost use Rattle.icescan_commands.specs.Runs.{WroteBeside, failing_of, failing_run, run_of, status_of_count};
 ghost use Rattle.icescan_commands.specs.Storing.{IsStored, IsStoredBy, IsStoredOfGiven, IsStoredOfGivenBy};
 ghost use Rattle.icescan_words.specs.CommandLines.{ReadAs};
 ghost use Rattle.icescan_words.specs.declared.command.Command.{Command};
@@ -12,7 +13,7 @@ ghost use Rattle.icescan_text.specs.declared.fault.RunFault.{RunFault};
 
 use crate::arms::{
     TableAt, audit, changes, columns, commit, drill, explain, list_plan, locate, orphans, plan,
-    reachable, show, tell,
+    reachable, relaxed, show, tell, tell_unasked,
 };
 use crate::system::System;
 use icescan_drill::Watch;
@@ -37,13 +38,15 @@ fn no_findings(answer: Result<(), RunFault>) -> Result<usize, RunFault>
     }
 }
 
-/// Writes what is asked for, and gives the number of faults of a table of which that tells.
-pub fn run_asked<H, S: Folders + Sync, P: Progress + Sync, K: Stores, R: Read, W: Sink>(
+/// Writes what is asked for, and gives the number of faults of a table of which that tells. What is to be told beside
+/// the answer is written to `errors`.
+pub fn run_asked<H, S: Folders + Sync, P: Progress + Sync, K: Stores, R: Read, W: Sink, E: Sink>(
     system: &System<'_, H, S, P>,
     asked: &Command,
     stores: &mut K,
     input: &mut R,
     output: &mut W,
+    errors: &mut E,
 ) -> Result<usize, RunFault>
 where
     H: Threads + Wait + Watch + AgedFolders + Sync,
@@ -61,6 +64,8 @@ where
         (W.taken output.old) (W.taken output.new)) }
     ensures stored_of_given { IsStoredOfGiven asked.now (S.gives system.now.folders.now) (K.below stores.old)
         (ended result) (K.files stores.new) (W.taken output.old) (W.taken output.new) }
+    ensures beside { OnOk result (WroteBeside (Ok asked.now) (E.taken errors.old) (E.taken errors.new)) }
+    ensures untold { OnErr result (errors.new ≡ errors.old) }
 {
     match asked {
         Command::ListPlan(lists, format) => {
@@ -89,6 +94,12 @@ where
             let table = &TableAt { source, path };
             no_findings(explain(system, table, request, *format, *workers, input, output))
         }
+        Command::Relaxed(what, source, request, format, workers, path) => {
+            let table = &TableAt { source, path };
+            let (what, format, workers) = (*what, *format, *workers);
+            let answer = relaxed(system, table, what, request, format, workers, input, output);
+            no_findings(tell_unasked(system.alloc, answer, errors))
+        }
         Command::Changes(source, request, format, workers, path) => {
             let table = &TableAt { source, path };
             no_findings(changes(system, table, request, *format, *workers, input, output))
@@ -109,17 +120,20 @@ where
 }
 
 /// Writes what the words ask for, and gives the number of faults of a table of which that tells.
-fn run<H, S: Folders + Sync, P: Progress + Sync, K: Stores, R: Read, W: Sink>(
+fn run<H, S: Folders + Sync, P: Progress + Sync, K: Stores, R: Read, W: Sink, E: Sink>(
     system: &System<'_, H, S, P>,
     words: &[String],
     stores: &mut K,
     input: &mut R,
     output: &mut W,
+    errors: &mut E,
 ) -> Result<usize, RunFault>
 where
     H: Threads + Wait + Watch + AgedFolders + Sync,
     requires { P.may_be_told system.now.progress.now ≡ true }
     ensures { (asked : Result Command RunFault) × ReadAs (map string_bytes words.now) asked ×
+        OnOk result (WroteBeside asked (E.taken errors.old) (E.taken errors.new)) ×
+        OnErr result (errors.new ≡ errors.old) ×
         OnOk result (IsOfDrill asked (W.taken output.old) (W.taken output.new)) ×
         IsStoredBy asked (S.below system.now.folders.now)
         (S.may_fail system.now.folders.now) (K.below stores.old) (K.below_may_fail stores.old) (W.may_fail output.old)
@@ -135,7 +149,9 @@ where
         × IfOk result (IsCountOf (S.below system.now.folders.now) asked text) }
 {
     let asked = parse_words(system.alloc, words)?;
-    run_asked(system, &asked, stores, input, output)
+    let answer = run_asked(system, &asked, stores, input, output, errors);
+    drop(asked);
+    answer
 }
 
 /// The status that the program ends with that told of so many faults of a table.
@@ -146,9 +162,10 @@ pub fn status_of_count(count: usize) -> u8
 }
 
 /// Runs the program: it writes what the words ask for to `output` and ends with 0, with 1 where that is an audit that
-/// found a fault of the table; or it writes the line of the first fault to `errors` and ends with the fault's status.
-/// Faults are found in this order: of the words, of reading standard input where it holds a bundle, of the bundle, of
-/// what is asked for. Files are read below the folders of the system, and commits put new ones below those of `stores`.
+/// found a fault of the table (of a filter that is relaxed it writes to `errors` what was not asked); or it writes the
+/// line of the first fault to `errors` and ends with the fault's status. Faults are found in this order: of the words, of
+/// reading standard input where it holds a bundle, of the bundle, of what is asked for. Files are read below the folders
+/// of the system, and commits put new ones below those of `stores`.
 pub fn run_words<H, S: Folders + Sync, P: Progress + Sync, K: Stores, R: Read, W: Sink, E: Sink>(
     system: &System<'_, H, S, P>,
     words: &[String],
@@ -184,8 +201,12 @@ where
           errors = E.taken errors.new;
         }) }
 {
-    match run(system, words, stores, input, output) {
+    match run(system, words, stores, input, output, errors) {
         Ok(count) => status_of_count(count),
-        Err(fault) => report(&fault, errors),
+        Err(fault) => {
+            let status = report(&fault, errors);
+            drop(fault);
+            status
+        }
     }
 }

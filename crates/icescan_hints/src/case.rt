@@ -18,6 +18,7 @@ pub fn place_of(asked: &Command) -> Option<&Place> {
         Command::Columns(Source::Folder(place), _, _, _) => Some(place),
         Command::Audit(Source::Folder(place), _, _, _, _) => Some(place),
         Command::Explain(Source::Folder(place), _, _, _, _) => Some(place),
+        Command::Relaxed(_, Source::Folder(place), _, _, _, _) => Some(place),
         Command::Changes(Source::Folder(place), _, _, _, _) => Some(place),
         Command::Reachable(Source::Folder(place), _, _, _) => Some(place),
         Command::Orphans(place, _, _, _) => Some(place),
@@ -46,6 +47,7 @@ impl<'a, F: Files> Case<'a, F> {
             | Command::Columns(_, _, _, path)
             | Command::Audit(_, _, _, _, path)
             | Command::Explain(_, _, _, _, path)
+            | Command::Relaxed(_, _, _, _, _, path)
             | Command::Changes(_, _, _, _, path)
             | Command::Reachable(_, _, _, path)
             | Command::Orphans(_, _, _, path) => Some(path.as_str()),
@@ -57,9 +59,9 @@ impl<'a, F: Files> Case<'a, F> {
     /// The plan that is asked of the table.
     pub fn request(&self) -> Option<&'a Request> {
         match self.asked {
-            Command::Plan(_, request, _, _, _) | Command::Explain(_, request, _, _, _) => Some(
-                request,
-            ),
+            Command::Plan(_, request, _, _, _)
+            | Command::Explain(_, request, _, _, _)
+            | Command::Relaxed(_, _, request, _, _, _) => Some(request),
             _ => None,
         }
     }
@@ -67,9 +69,9 @@ impl<'a, F: Files> Case<'a, F> {
     /// The snapshot that is asked for.
     pub fn target(&self) -> Option<&'a Target> {
         match self.asked {
-            Command::Plan(_, request, _, _, _) | Command::Explain(_, request, _, _, _) => {
-                Some(&request.target)
-            }
+            Command::Plan(_, request, _, _, _)
+            | Command::Explain(_, request, _, _, _)
+            | Command::Relaxed(_, _, request, _, _, _) => Some(&request.target),
             Command::Columns(_, target, _, _) | Command::Audit(_, target, _, _, _) => Some(target),
             _ => None,
         }

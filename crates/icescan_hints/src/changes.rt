@@ -18,7 +18,10 @@ fn is_read(alloc: Global, member: ChangeMember, file: &Value) -> Result<bool, Al
         ChangeMember::Deletes => format!(in alloc; "{{\"data\":[],\"deletes\":[{file}]}}")?,
         _ => format!(in alloc; "{{\"data\":[{file}],\"deletes\":[]}}")?,
     };
-    Ok(read_change(alloc, text.as_bytes(), ChangeKind::RowDelta).is_ok())
+    let change = read_change(alloc, text.as_bytes(), ChangeKind::RowDelta).ok();
+    let is_read = change.is_some();
+    drop(change);
+    Ok(is_read)
 }
 
 /// Which file of an array of the change file is at fault.
@@ -63,6 +66,14 @@ fn change_json<F: Files>(alloc: Global, case: &Case<'_, F>) -> Option<Value> {
     Value::from_str(alloc, text).ok()
 }
 
+/// Adds the first file of a change that can't be read.
+fn add_first_of_both(hint: &mut Hint, alloc: Global, change: &Value) -> Result<(), AllocError> {
+    if !add_first(hint, alloc, change, ChangeMember::Data)? {
+        add_first(hint, alloc, change, ChangeMember::Deletes)?;
+    }
+    Ok(())
+}
+
 /// Adds which file of the change file is at fault.
 pub fn add_bad_file<F: Files>(
     hint: &mut Hint,
@@ -76,10 +87,9 @@ pub fn add_bad_file<F: Files>(
     let Some(change) = change_json(alloc, case) else {
         return Ok(());
     };
-    if !add_first(hint, alloc, &change, ChangeMember::Data)? {
-        add_first(hint, alloc, &change, ChangeMember::Deletes)?;
-    }
-    Ok(())
+    let added = add_first_of_both(hint, alloc, &change);
+    drop(change);
+    added
 }
 
 /// The change that is to be committed.
@@ -137,17 +147,34 @@ fn fields_text(alloc: Global, metadata: &Metadata, spec: &Spec) -> Result<String
     Ok(text)
 }
 
+/// The fields of the spec of an id, where the metadata has one.
+fn listed_spec(
+    alloc: Global,
+    metadata: &Metadata,
+    spec_id: i32,
+) -> Result<Option<String>, AllocError> {
+    match metadata.spec(alloc, spec_id, metadata.schema_for(&Target::Main))? {
+        Some(spec) => {
+            let text = fields_text(alloc, metadata, &spec);
+            drop(spec);
+            Ok(Some(text?))
+        }
+        None => Ok(None),
+    }
+}
+
 /// The fields of the spec of an id, where the metadata can be read and has one.
 fn spec_text<F: Files>(
     alloc: Global,
     case: &Case<'_, F>,
     spec_id: i32,
 ) -> Result<Option<String>, AllocError> {
-    let Some(metadata) = case.metadata(alloc) else {
-        return Ok(None);
-    };
-    match metadata.spec(alloc, spec_id, metadata.schema_for(&Target::Main))? {
-        Some(spec) => Ok(Some(fields_text(alloc, &metadata, &spec)?)),
+    match case.metadata(alloc) {
+        Some(metadata) => {
+            let text = listed_spec(alloc, &metadata, spec_id);
+            drop(metadata);
+            text
+        }
         None => Ok(None),
     }
 }
@@ -181,7 +208,9 @@ pub fn add_fields<F: Files>(
     let Some(change) = change_of(alloc, case) else {
         return Ok(());
     };
-    match partition_at(&change, path) {
+    let partition = partition_at(&change, path);
+    drop(change);
+    match partition {
         Some((spec_id, values)) => add_spec_fields(hint, alloc, case, spec_id, values),
         None => Ok(()),
     }

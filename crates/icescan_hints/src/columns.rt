@@ -9,6 +9,20 @@ use icescan_hint_texts::{
 };
 use std::alloc::{AllocError, Global};
 
+/// Adds what of a filter the columns don't take.
+fn add_refused(
+    hint: &mut Hint,
+    alloc: Global,
+    asked: &Asked<'_>,
+    fault: FilterFault,
+) -> Result<(), AllocError> {
+    match fault {
+        FilterFault::NoSuchColumn => add_first_missing(hint, alloc, asked),
+        FilterFault::WrongLiteral => add_wrong_literal(hint, alloc, asked),
+        _ => add_types(hint, alloc, asked),
+    }
+}
+
 /// Adds what of the filter the columns of the table don't take.
 fn add_bound<F: Files>(
     hint: &mut Hint,
@@ -23,15 +37,14 @@ fn add_bound<F: Files>(
     let Ok(filter) = parse(alloc, text.as_str()) else {
         return Ok(());
     };
+    let schema = metadata.schema_for(&request.target);
     let asked = Asked {
         filter: &filter,
-        schema: metadata.schema_for(&request.target),
+        schema,
     };
-    match fault {
-        FilterFault::NoSuchColumn => add_first_missing(hint, alloc, &asked),
-        FilterFault::WrongLiteral => add_wrong_literal(hint, alloc, &asked),
-        _ => add_types(hint, alloc, &asked),
-    }
+    let added = add_refused(hint, alloc, &asked, fault);
+    drop(filter);
+    added
 }
 
 /// Adds what of a filter is refused.
@@ -48,7 +61,11 @@ pub fn add_filter<F: Files>(
         }
         (FilterFault::TooBig | FilterFault::Memory, _) => Ok(()),
         _ => match case.metadata(alloc) {
-            Some(metadata) => add_bound(hint, alloc, case, &metadata, fault),
+            Some(metadata) => {
+                let added = add_bound(hint, alloc, case, &metadata, fault);
+                drop(metadata);
+                added
+            }
             None => Ok(()),
         },
     }

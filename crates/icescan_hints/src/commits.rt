@@ -126,7 +126,10 @@ fn add_change_file<F: Files>(
 
 /// The time of the newest snapshot.
 fn newest_time<F: Files>(alloc: Global, case: &Case<'_, F>) -> Option<i64> {
-    case.metadata(alloc)?.newest_time()
+    let metadata = case.metadata(alloc)?;
+    let newest = metadata.newest_time();
+    drop(metadata);
+    newest
 }
 
 /// Adds the commit's time and that of the newest snapshot.

@@ -33,7 +33,9 @@ const NOT_COMPARABLE: Sentence = Sentence {
     name: "F4 NotComparable",
     wrong: "the column is a float, double, decimal, struct, list or map; or an order is asked of a uuid, or
 `starts with` of another than a string",
-    advice: Some("leave this column out of the filter, and filter the rows that are read"),
+    advice: Some(
+        "plan with `--relax`, which asks the rest of the filter; and filter the rows that are read",
+    ),
 };
 
 const TOO_BIG: Sentence = Sentence {

@@ -28,6 +28,6 @@ mod telling;
 pub use case::{Case, place_of};
 pub use fields::field_name;
 pub use looks::{Kind, Looks};
-pub use notes::{put_notes, put_reading, put_words_hint};
+pub use notes::{put_notes, put_reading, put_unasked, put_words_hint};
 pub use run::sentences_of;
 pub use telling::put_hint;

@@ -38,7 +38,7 @@ fn last_read(alloc: Global, row: &Row, spec: &Spec, bytes: &[u8]) -> Option<u64>
     let last = LastRead {
         position: Cell::new(None),
     };
-    let _ = read_kept(alloc, row, spec, &last, bytes);
+    drop(read_kept(alloc, row, spec, &last, bytes));
     last.position.get()
 }
 
@@ -102,6 +102,20 @@ fn add_position(hint: &mut Hint, alloc: Global, last: Option<u64>) -> Result<(),
     }
 }
 
+/// The position of the last entry of a row's manifest that can be read, where its spec is known.
+fn last_of<F: Files>(
+    alloc: Global,
+    case: &Case<'_, F>,
+    metadata: &Option<Metadata>,
+    row: &Row,
+    bytes: &[u8],
+) -> Option<u64> {
+    let spec = spec_of(alloc, case, metadata, row)?;
+    let last = last_read(alloc, row, &spec, bytes);
+    drop(spec);
+    last
+}
+
 /// The position of the last entry of the manifest at a path that can be read.
 fn last_position<F: Files>(
     alloc: Global,
@@ -109,10 +123,11 @@ fn last_position<F: Files>(
     metadata: &Option<Metadata>,
     path: &Text,
 ) -> Option<u64> {
-    let row = row_at(alloc, case, metadata, path)?;
-    let spec = spec_of(alloc, case, metadata, &row)?;
     let bytes = case.read(alloc, path.as_str())?;
-    last_read(alloc, &row, &spec, &bytes)
+    let row = row_at(alloc, case, metadata, path)?;
+    let last = last_of(alloc, case, metadata, &row, &bytes);
+    drop(row);
+    last
 }
 
 /// Adds what of the manifest at a path is at fault.
@@ -131,7 +146,9 @@ pub fn add_manifest<F: Files>(
         _ => {}
     }
     let metadata = case.metadata(alloc);
-    add_position(hint, alloc, last_position(alloc, case, &metadata, path))
+    let last = last_position(alloc, case, &metadata, path);
+    drop(metadata);
+    add_position(hint, alloc, last)
 }
 
 /// Adds what of the manifest list is at fault.

@@ -3,8 +3,9 @@
 ghost use Rattle.icescan_progress.specs.Hints.{AppendsPlain};
 
 use crate::case::Case;
+use contract_words::Text;
 use ice_desk::Files;
-use ice_filter::{bind, parse};
+use ice_filter::{Filter, bind, parse};
 use ice_manifest_reading::Row;
 use icescan_hint_texts::{Asked, Hint, add_split, add_unlikely, reading_of};
 use icescan_print::Sink;
@@ -27,7 +28,7 @@ fn add_bound(
     asked: &Asked<'_>,
     when: When,
 ) -> Result<(), AllocError> {
-    if bind(alloc, asked.filter, asked.schema).is_err() {
+    if bind(alloc, asked.filter, asked.schema).err().is_some() {
         return Ok(());
     }
     match when {
@@ -39,6 +40,28 @@ fn add_bound(
     }
 }
 
+/// The same, where the table's metadata can be read.
+fn add_read<F: Files>(
+    hint: &mut Hint,
+    alloc: Global,
+    case: &Case<'_, F>,
+    filter: &Filter,
+    when: When,
+) -> Result<(), AllocError> {
+    let Some(request) = case.request() else {
+        return Ok(());
+    };
+    match case.metadata(alloc) {
+        Some(metadata) => {
+            let schema = metadata.schema_for(&request.target);
+            let added = add_bound(hint, alloc, &Asked { filter, schema }, when);
+            drop(metadata);
+            added
+        }
+        None => Ok(()),
+    }
+}
+
 /// Adds what is to be known of the filter of a plan.
 fn add_filter<F: Files>(
     hint: &mut Hint,
@@ -46,20 +69,15 @@ fn add_filter<F: Files>(
     case: &Case<'_, F>,
     when: When,
 ) -> Result<(), AllocError> {
-    let (Some(request), Some(text)) = (case.request(), case.filter()) else {
+    let Some(text) = case.filter() else {
         return Ok(());
     };
     let Ok(filter) = parse(alloc, text.as_str()) else {
         return Ok(());
     };
-    match case.metadata(alloc) {
-        Some(metadata) => {
-            let schema = metadata.schema_for(&request.target);
-            let filter = &filter;
-            add_bound(hint, alloc, &Asked { filter, schema }, when)
-        }
-        None => Ok(()),
-    }
+    let added = add_read(hint, alloc, case, &filter, when);
+    drop(filter);
+    added
 }
 
 /// Whether a row of a manifest list is that of a partitioned table.
@@ -122,6 +140,26 @@ pub fn put_notes<F: Files, S: Sink>(alloc: Global, case: &Case<'_, F>, errors: &
 {
     if let Ok(hint) = notes(alloc, case, When::After) {
         put_lines(alloc, hint.lines(), errors);
+    }
+}
+
+/// The lines that say which predicates are not asked, one for each.
+fn unasked_lines(alloc: Global, unasked: &[Text]) -> Result<Vec<Text>, AllocError> {
+    let mut lines = Vec::new(alloc);
+    for predicate in unasked {
+        let predicate = predicate.as_str();
+        lines.push(Text::from_string(format!(in alloc; "icescan: not asked: {predicate}")?))?;
+    }
+    Ok(lines)
+}
+
+/// Writes which predicates of a relaxed filter are not asked, as far as it can be written: a line for each, in which no
+/// control character stands.
+pub fn put_unasked<S: Sink>(alloc: Global, unasked: &[Text], errors: &mut S)
+    ensures { AppendsPlain (S.taken errors.old) (S.taken errors.new) }
+{
+    if let Ok(lines) = unasked_lines(alloc, unasked) {
+        put_lines(alloc, &lines, errors);
     }
 }
 

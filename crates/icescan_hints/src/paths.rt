@@ -50,9 +50,13 @@ fn location_at<F: Files>(
     let Some(bytes) = case.read(alloc, path) else {
         return Ok(None);
     };
-    match Metadata::read(alloc, &bytes) {
-        Ok(metadata) => Ok(Some(metadata.table().location.copy(alloc)?)),
-        Err(_) => Ok(None),
+    match Metadata::read(alloc, &bytes).ok() {
+        Some(metadata) => {
+            let location = metadata.table().location.copy(alloc);
+            drop(metadata);
+            Ok(Some(location?))
+        }
+        None => Ok(None),
     }
 }
 
@@ -127,7 +131,9 @@ fn add_location<F: Files>(
     match case.metadata(alloc) {
         Some(metadata) => {
             let location = metadata.table().location.as_str();
-            add_other_location(hint, alloc, location, place.prefix.as_str())
+            let added = add_other_location(hint, alloc, location, place.prefix.as_str());
+            drop(metadata);
+            added
         }
         None => Ok(()),
     }

@@ -53,7 +53,11 @@ pub fn add_specs<F: Files>(
     case: &Case<'_, F>,
 ) -> Result<(), AllocError> {
     match case.metadata(alloc) {
-        Some(metadata) => add_spec_ids(hint, alloc, metadata.table()),
+        Some(metadata) => {
+            let added = add_spec_ids(hint, alloc, metadata.table());
+            drop(metadata);
+            added
+        }
         None => Ok(()),
     }
 }
@@ -94,9 +98,16 @@ fn add_asked_target<F: Files>(
     alloc: Global,
     case: &Case<'_, F>,
 ) -> Result<(), AllocError> {
-    match (case.target(), case.metadata(alloc)) {
-        (Some(target), Some(metadata)) => add_target(hint, alloc, target, &metadata),
-        _ => Ok(()),
+    let Some(target) = case.target() else {
+        return Ok(());
+    };
+    match case.metadata(alloc) {
+        Some(metadata) => {
+            let added = add_target(hint, alloc, target, &metadata);
+            drop(metadata);
+            added
+        }
+        None => Ok(()),
     }
 }
 

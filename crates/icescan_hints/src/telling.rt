@@ -102,6 +102,7 @@ fn add_workers<F: Files>(
         Command::Plan(_, _, _, workers, _)
         | Command::Audit(_, _, _, workers, _)
         | Command::Explain(_, _, _, workers, _)
+        | Command::Relaxed(_, _, _, _, workers, _)
         | Command::Changes(_, _, _, workers, _) => {
             hint.here(alloc, format!(in alloc; "`--workers` is {workers}")?)
         }

@@ -15,6 +15,8 @@ use Rattle.icescan_words.specs.declared.command.Lists.{Lists}
 use Rattle.icescan_words.specs.declared.command.Lists.TheVariants as lists
 use Rattle.icescan_words.specs.declared.command.Located.{Located}
 use Rattle.icescan_words.specs.declared.command.Located.TheVariants as located
+use Rattle.icescan_words.specs.declared.command.Relaxed.{Relaxed}
+use Rattle.icescan_words.specs.declared.command.Relaxed.TheVariants as relaxed
 use Rattle.icescan_words.specs.declared.command.Source.{Source}
 use Rattle.icescan_words.specs.declared.command.Source.TheVariants as source
 use Rattle.ice_meta.specs.declared.metadata.Target.{Target}
@@ -49,7 +51,7 @@ abbrev pub is_flag : List ℕ → Bool
 is_flag word =
     bytes_eq word (codes "--bundle") || bytes_eq word (codes "--quiet") || bytes_eq word (codes "--null")
     || bytes_eq word (codes "--all") || bytes_eq word (codes "--appends") || bytes_eq word (codes "--explain")
-    || bytes_eq word (codes "--no-links")
+    || bytes_eq word (codes "--no-links") || bytes_eq word (codes "--relax")
 
 -- the word after this option is its value: the option stands without `=`, and may have a value
 abbrev pub takes_next : List ℕ → Bool
@@ -138,6 +140,11 @@ abbrev pub name_of : ChangeKind → List ℕ
 name_of kind.Append = codes "append"
 name_of kind.RowDelta = codes "row-delta"
 
+-- the name of the command that asks for this under a relaxed filter
+abbrev pub relaxed_name : Relaxed → List ℕ
+relaxed_name relaxed.Plan = codes "plan"
+relaxed_name relaxed.Explanation = codes "explain"
+
 -- the name of a command
 abbrev pub command_name : Command → List ℕ
 command_name (command.ListPlan lists form) = codes "list-plan"
@@ -148,6 +155,7 @@ command_name (command.Locate folder told) = codes "locate"
 command_name (command.Columns from of form path) = codes "columns"
 command_name (command.Audit from of form workers path) = codes "audit"
 command_name (command.Explain from request form workers path) = codes "explain"
+command_name (command.Relaxed what from request form workers path) = relaxed_name what
 command_name (command.Changes from request form workers path) = codes "changes"
 command_name (command.Reachable from part form path) = codes "reachable"
 command_name (command.Orphans place older form path) = codes "orphans"
@@ -182,6 +190,10 @@ module _ (words : List (List ℕ)) where
   abbrev pub HasNamedPlan : List ℕ → Request → Type 0
   HasNamedPlan name request = (option_in words (codes "--filter") ≡ request.filter)
       × IsNamed (option_in words name) request.target
+
+  -- a word asks for a relaxed filter, or none does
+  abbrev pub IsRelaxed : Bool → Type 0
+  IsRelaxed asked = asked ≡ has_word (codes "--relax")
 
   abbrev pub HasAppends : Bool → Type 0
   HasAppends appends = appends ≡ has_word (codes "--appends")
@@ -221,6 +233,7 @@ module _ (words : List (List ℕ)) where
       × HasFormat form
   AsksFor (command.Plan from request form workers path) =
       Names (codes "plan") path × HasSource from × HasRequest request × HasFormat form × HasWorkers workers
+      × IsRelaxed false
   AsksFor (command.Commit from request) = HasCommit request × HasSource from
   AsksFor (command.Show from form path) = Names (codes "show") path × HasSource from × HasFormat form
   AsksFor (command.Locate folder told) = Names (codes "locate") folder × HasLocated told
@@ -230,6 +243,10 @@ module _ (words : List (List ℕ)) where
       Names (codes "audit") path × HasSource from × HasTarget of × HasFormat form × HasWorkers workers
   AsksFor (command.Explain from request form workers path) =
       Names (codes "explain") path × HasSource from × HasRequest request × HasFormat form × HasWorkers workers
+      × IsRelaxed false
+  AsksFor (command.Relaxed what from request form workers path) =
+      Names (relaxed_name what) path × HasSource from × HasRequest request × HasFormat form × HasWorkers workers
+      × IsRelaxed true
   AsksFor (command.Changes from request form workers path) =
       Names (codes "changes") path × HasSource from × HasChanges request × HasFormat form × HasWorkers workers
   AsksFor (command.Reachable from part form path) =

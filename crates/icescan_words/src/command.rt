@@ -39,6 +39,15 @@ pub enum Located {
     All,
 }
 
+/// What is asked for under a relaxed filter.
+#[derive(Clone, Copy, Debug, PartialEq, Eq)]
+pub enum Relaxed {
+    /// The plan.
+    Plan,
+    /// The plan, explained.
+    Explanation,
+}
+
 /// What the words ask for.
 #[derive(Debug, Drop)]
 pub enum Command {
@@ -58,6 +67,8 @@ pub enum Command {
     Audit(Source, Target, Format, usize, Text),
     /// The plan, by so many workers, that is asked of the table whose metadata is at this path, explained in this form.
     Explain(Source, Request, Format, usize, Text),
+    /// This of the table whose metadata is at this path, in this form and by so many workers, under a relaxed filter.
+    Relaxed(Relaxed, Source, Request, Format, usize, Text),
     /// The changes, in this form and by so many workers, that are asked of the table whose metadata is at this path.
     Changes(Source, ChangesRequest, Format, usize, Text),
     /// This part, in this form, of the files that the table reaches whose metadata is at this path.

@@ -12,10 +12,11 @@ use crate::orphans_command::orphans_command;
 use crate::parameter::{Parameter, argument, flag};
 use crate::parameters::{
     AUDITED_REF, AUDITED_SNAPSHOT, BUNDLE, CHANGE, COMMITS, DIR, FILTER, FORMAT, LINES_FORMAT,
-    LIST, METADATA, NOW_MS, OUT, PREFIX, QUIET, REF, SNAPSHOT, SNAPSHOT_ID, THREADS, UUID, WORKERS,
+    LIST, METADATA, NOW_MS, OUT, PREFIX, QUIET, REF, RELAX, SNAPSHOT, SNAPSHOT_ID, THREADS, UUID,
+    WORKERS,
 };
 use crate::reachable_command::reachable_command;
-use clap::{ArgGroup, Command};
+use clap::{Arg, ArgGroup, Command};
 use std::alloc::{AllocError, Global};
 
 /// A command.
@@ -53,7 +54,7 @@ const NAMES: &[Name] = &[
 ];
 
 const PLAN: &[Parameter] = &[
-    METADATA, REF, SNAPSHOT, FILTER, WORKERS, FORMAT, BUNDLE, DIR, PREFIX, QUIET,
+    METADATA, REF, SNAPSHOT, FILTER, RELAX, WORKERS, FORMAT, BUNDLE, DIR, PREFIX, QUIET,
 ];
 
 const LIST_PLAN: &[Parameter] = &[LIST, FORMAT, BUNDLE, DIR, PREFIX, QUIET];
@@ -105,17 +106,28 @@ pub fn described<'a>(
         .after_long_help(example)
 }
 
+/// What the parser is told of parameters.
+fn arguments<'a>(alloc: Global, parameters: &'a [Parameter]) -> Result<Vec<Arg<'a>>, AllocError> {
+    let mut arguments = Vec::new(alloc);
+    for parameter in parameters {
+        arguments.push(argument(alloc, parameter)?)?;
+    }
+    Ok(arguments)
+}
+
 /// A command with its parameters.
 pub fn with_parameters<'a>(
     alloc: Global,
     command: Command<'a>,
     parameters: &'a [Parameter],
 ) -> Result<Command<'a>, AllocError> {
-    let mut arguments = Vec::new(alloc);
-    for parameter in parameters {
-        arguments.push(argument(alloc, parameter)?)?;
+    match arguments(alloc, parameters) {
+        Ok(arguments) => command.args(arguments),
+        Err(error) => {
+            drop(command);
+            Err(error)
+        }
     }
-    command.args(arguments)
 }
 
 /// A command with its parameters, of which `--bundle` or `--dir` has to say where files come from.
@@ -124,7 +136,14 @@ pub fn over_files<'a>(
     command: Command<'a>,
     parameters: &'a [Parameter],
 ) -> Result<Command<'a>, AllocError> {
-    with_parameters(alloc, command, parameters)?.group(ways(alloc)?)
+    let command = with_parameters(alloc, command, parameters)?;
+    match ways(alloc) {
+        Ok(ways) => command.group(ways),
+        Err(error) => {
+            drop(command);
+            Err(error)
+        }
+    }
 }
 
 /// The command `plan`.
@@ -224,21 +243,23 @@ fn bare_program<'a>(alloc: Global) -> Result<Command<'a>, AllocError> {
         .no_binary_name(true)
         .version("0.1.0")
         .subcommand_required(true);
+    let program = program.bin_name("icescan")?;
     let explain = flag(
         alloc,
         "explain",
         "Say more of refusals and answers, as on a terminal",
     );
+    let program = program.arg(explain.global(true))?;
     let no_links = flag(
         alloc,
         "no-links",
         "Read and write through no link below a folder",
     );
-    let program = program.bin_name("icescan")?.arg(explain.global(true))?;
     program.arg(no_links.global(true))
 }
 
 /// The program with all its commands.
 pub fn program<'a>(alloc: Global) -> Result<Command<'a>, AllocError> {
-    bare_program(alloc)?.subcommands(commands(alloc)?)
+    let commands = commands(alloc)?;
+    bare_program(alloc)?.subcommands(commands)
 }

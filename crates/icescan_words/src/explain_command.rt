@@ -3,7 +3,8 @@
 use crate::command_line::{described, over_files};
 use crate::parameter::Parameter;
 use crate::parameters::{
-    BUNDLE, DIR, EXPLAIN_WORKERS, FILTER, LINES_FORMAT, METADATA, PREFIX, QUIET, REF, SNAPSHOT,
+    BUNDLE, DIR, EXPLAIN_WORKERS, FILTER, LINES_FORMAT, METADATA, PREFIX, QUIET, REF, RELAX,
+    SNAPSHOT,
 };
 use clap::Command;
 use std::alloc::{AllocError, Global};
@@ -51,6 +52,7 @@ const EXPLAIN: &[Parameter] = &[
     REF,
     SNAPSHOT,
     FILTER,
+    RELAX,
     EXPLAIN_WORKERS,
     LINES_FORMAT,
     BUNDLE,

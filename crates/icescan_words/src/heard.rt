@@ -1,10 +1,10 @@
 //! Whether a command is the one that the words ask for, found without the parser.
 
-ghost use Rattle.std.specs.Prelude.{◌≡◌, ◌∷◌, [], IfOk, IsTrue, None, Some, bytes_eq, codes, if◌then◌else◌, map, nat_eq};
-ghost use Rattle.std.specs.Prelude.{option_and_then, option_map, string_bytes};
+ghost use Rattle.std.specs.Prelude.{◌≡◌, ◌∷◌, [], IfOk, IsTrue, None, Some, bytes_eq, codes, false, if◌then◌else◌, map, nat_eq};
+ghost use Rattle.std.specs.Prelude.{option_and_then, option_map, string_bytes, true};
 ghost use Rattle.std.specs.List.{after_first, before_first, list_any, starts_with};
 ghost use Rattle.uuid.specs.Text.{parsed};
-ghost use Rattle.icescan_words.specs.Heard.{HasAppends, HasChanges, HasNamedPlan, IsNamed};
+ghost use Rattle.icescan_words.specs.Heard.{HasAppends, HasChanges, HasNamedPlan, IsNamed, IsRelaxed, relaxed_name};
 ghost use Rattle.icescan_words.specs.Heard.{AsksFor, HasCommit, HasDrill, HasFormat, HasIds, HasRequest, HasSource};
 ghost use Rattle.icescan_words.specs.Heard.{HasLocated, HasPart, HasTarget, HasWorkers, Names, asks_help, is_equals};
 ghost use Rattle.icescan_words.specs.Heard.{is_flag};
@@ -15,7 +15,7 @@ ghost use Rattle.icescan_words.specs.Heard.{unsigned};
 ghost use Rattle.icescan_words.specs.declared.command.Source.TheVariants as source;
 
 use crate::answer_format::format_by;
-use crate::command::{Command, Lists, Located, Place, Source};
+use crate::command::{Command, Lists, Located, Place, Relaxed, Source};
 use contract_words::Text;
 use ice_catalog_changes::Ids;
 use ice_meta::Target;
@@ -67,6 +67,7 @@ fn is_flag(word: &str) -> bool
         || word == "--appends"
         || word == "--explain"
         || word == "--no-links"
+        || word == "--relax"
 }
 
 /// Whether the word after this option is its value.
@@ -417,12 +418,47 @@ fn has_scan(words: &[String], request: &Request, workers: usize) -> bool
     has_request(words, request) && has_workers(words, workers)
 }
 
+/// Whether the words relax the filter, or don't.
+fn is_relaxed(words: &[String], relaxed: bool) -> bool
+    ensures { IsTrue result → IsRelaxed (map string_bytes words.now) relaxed }
+{
+    relaxed == has_word(words, "--relax")
+}
+
 /// Whether the words ask this of a table, in this form and by so many workers.
-fn has_plan(words: &[String], request: &Request, format: Format, workers: usize) -> bool
+fn has_told(words: &[String], request: &Request, format: Format, workers: usize) -> bool
     ensures { IsTrue result → HasRequest (map string_bytes words.now) request.now
         × HasFormat (map string_bytes words.now) format × HasWorkers (map string_bytes words.now) workers }
 {
     has_format(words, format) && has_scan(words, request, workers)
+}
+
+/// The same, under the filter as it stands.
+fn has_plan(words: &[String], request: &Request, format: Format, workers: usize) -> bool
+    ensures { IsTrue result → HasRequest (map string_bytes words.now) request.now
+        × HasFormat (map string_bytes words.now) format × HasWorkers (map string_bytes words.now) workers
+        × IsRelaxed (map string_bytes words.now) false }
+{
+    has_told(words, request, format, workers) && is_relaxed(words, false)
+}
+
+/// The same, under the relaxed filter.
+fn has_relaxed(words: &[String], request: &Request, format: Format, workers: usize) -> bool
+    ensures { IsTrue result → HasRequest (map string_bytes words.now) request.now
+        × HasFormat (map string_bytes words.now) format × HasWorkers (map string_bytes words.now) workers
+        × IsRelaxed (map string_bytes words.now) true }
+{
+    has_told(words, request, format, workers) && is_relaxed(words, true)
+}
+
+/// The name of the command that asks for this.
+fn relaxed_name(what: Relaxed) -> &'static str
+    ensures { result.now ≡ relaxed_name what }
+{
+    match what {
+        Relaxed::Plan => "plan",
+        Relaxed::Explanation => "explain",
+    }
 }
 
 /// Whether the words ask for this snapshot, in this form.
@@ -560,6 +596,10 @@ fn asks_with(words: &[String], plain: &[&str], command: &Command) -> bool
         Command::Explain(source, request, format, workers, path) => {
             is_about(words, plain, "explain", source, path.as_str())
                 && has_plan(words, request, *format, *workers)
+        }
+        Command::Relaxed(what, source, request, format, workers, path) => {
+            is_about(words, plain, relaxed_name(*what), source, path.as_str())
+                && has_relaxed(words, request, *format, *workers)
         }
         Command::Changes(source, request, format, workers, path) => {
             is_about(words, plain, "changes", source, path.as_str())

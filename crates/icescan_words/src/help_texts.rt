@@ -19,7 +19,8 @@ of its rows can meet it. In quotes it is one word for a shell:
   key = x'00ff'                     bytes in hexadecimal; a uuid is a text
   place.\"post code\" = '0150'        a dot leads into a struct; double quotes
                                     stand round a name that is no plain word
-Floats, doubles, decimals, lists and maps are not compared.
+Floats, doubles, decimals, lists and maps are not compared: with --relax such a
+comparison is left out, named on standard error, and the rest is asked.
 
 `date` writes the number of a time, as that of 2024-03-08 00:00 UTC here:
   --filter \"ts >= $(date -u -d 2024-03-08 +%s)000000\"
@@ -121,7 +122,11 @@ findings:
                the delete file applies to no live data file, which costs time
                and is no fault
   live-twice   another live entry has the file's path, or a spelling of it
-               (these lines come after all others)
+               (these lines come after those of all manifests)
+  total-data-files, total-delete-files, total-records, total-position-deletes,
+  total-equality-deletes, total-files-size
+               the snapshot's summary says this number, and its live files come
+               to another, which no plan goes by and is no fault
 Where no finding is `uncovered`, the plan under any filter is that of all
 manifests of the snapshot. Where none is a fault, each file may have, of each
 column by itself, values of which the manifest is right. No data file is read.
@@ -133,9 +138,9 @@ Example, at the top of icescan's repository:
   icescan audit --dir examples/events-java/table --prefix s3://warehouse/db/events \\
     s3://warehouse/db/events/metadata/00009-ea5012f5-592b-59fd-6564-e953f439e682.metadata.json
 
-Exit status: 0 nothing found, or dangling deletes alone, 1 there are faults, or
-the table is refused, 2 the command line or the bundle is, 3 a read or a write
-failed, 5 memory ran out. A refusal is one line on standard error.";
+Exit status: 0 nothing found, or no fault, 1 there are faults, or the table is
+refused, 2 the command line or the bundle is, 3 a read or a write failed, 5
+memory ran out. A refusal is one line on standard error.";
 
 pub const DRILL_EXAMPLE: &str =
     "Each thread appends one file in each of its commits, and tries again on the

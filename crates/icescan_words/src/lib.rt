@@ -17,5 +17,5 @@ mod parameters;
 mod parsing;
 mod reachable_command;
 
-pub use command::{Command, Lists, Located, Place, Source};
+pub use command::{Command, Lists, Located, Place, Relaxed, Source};
 pub use parsing::parse_words;

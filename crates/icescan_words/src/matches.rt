@@ -9,7 +9,7 @@ ghost use Rattle.icescan_words.specs.Heard.{signed, source_of, unsigned, workers
 ghost use Rattle.icescan_words.specs.Matched.{value_at};
 
 use crate::answer_format::format_by;
-use crate::command::{Command, Lists, Located, Place, Source};
+use crate::command::{Command, Lists, Located, Place, Relaxed, Source};
 use clap::ArgMatches;
 use contract_words::Text;
 use ice_catalog_changes::Ids;
@@ -290,7 +290,11 @@ fn plan_command(alloc: Global, matches: &ArgMatches<'_>) -> Result<Command, RunF
     let metadata = required_text(alloc, matches, "metadata")?;
     let source = source_of(alloc, matches)?;
     let request = request_of(alloc, matches)?;
-    Ok(Command::Plan(source, request, format, workers, metadata))
+    if matches.get_flag("relax") {
+        Ok(Command::Relaxed(Relaxed::Plan, source, request, format, workers, metadata))
+    } else {
+        Ok(Command::Plan(source, request, format, workers, metadata))
+    }
 }
 
 /// What is asked for of metadata.
@@ -355,7 +359,18 @@ fn explain_command(alloc: Global, matches: &ArgMatches<'_>) -> Result<Command, R
     let metadata = required_text(alloc, matches, "metadata")?;
     let source = source_of(alloc, matches)?;
     let request = request_of(alloc, matches)?;
-    Ok(Command::Explain(source, request, format, workers, metadata))
+    if matches.get_flag("relax") {
+        Ok(Command::Relaxed(
+            Relaxed::Explanation,
+            source,
+            request,
+            format,
+            workers,
+            metadata,
+        ))
+    } else {
+        Ok(Command::Explain(source, request, format, workers, metadata))
+    }
 }
 
 /// The changes that are asked for.
@@ -464,5 +479,7 @@ fn command_of(alloc: Global, matches: &ArgMatches<'_>) -> Result<Command, RunFau
 pub fn matched(alloc: Global, matches: ArgMatches<'_>) -> Result<Command, RunFault>
     ensures { IfErr result IsWordsFault }
 {
-    command_of(alloc, &matches)
+    let command = command_of(alloc, &matches);
+    drop(matches);
+    command
 }

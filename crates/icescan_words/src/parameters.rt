@@ -68,6 +68,14 @@ pub const PREFIX: Parameter = Parameter {
     help: "The front of the table's paths: PREFIX/a is DIR/a",
 };
 
+/// Whether what can't be asked of a column is left out of the filter.
+pub const RELAX: Parameter = Parameter {
+    name: "relax",
+    rule: Rule::With("filter"),
+    help: "Leave out of the filter what its columns can't be asked",
+    ..BUNDLE
+};
+
 /// Keeps a terminal from being shown what is read. It has no effect on what the words ask for.
 pub const QUIET: Parameter = Parameter {
     name: "quiet",

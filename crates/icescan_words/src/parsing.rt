@@ -39,7 +39,11 @@ fn parsed(alloc: Global, words: &[String]) -> Result<Command, RunFault>
 {
     match program(alloc)?.try_get_matches_from(words) {
         Ok(matches) => matched(alloc, matches),
-        Err(error) => shown(alloc, &error),
+        Err(error) => {
+            let command = shown(alloc, &error);
+            drop(error);
+            command
+        }
     }
 }
 
@@ -61,7 +65,10 @@ fn heard(alloc: Global, words: &[String]) -> Result<Command, RunFault>
     let command = parsed(alloc, words)?;
     match asks_for(alloc, words, &command) {
         Ok(true) => Ok(command),
-        asked => Err(unasked(alloc, asked)),
+        asked => {
+            drop(command);
+            Err(unasked(alloc, asked))
+        }
     }
 }
 

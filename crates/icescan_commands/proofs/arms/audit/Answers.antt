@@ -37,7 +37,7 @@ returns-clause-ran g c =
     let path = c.as_str-path.result.now in
     let target = c.args.target.now in
     let workers = c.args.workers in
-    let ran = c.write_audit in
+    let ran = c.write_audit-answer in
     let told = opened_ran below may_fail opened.0 from _ _ opened.2
     (λ world. audit_in c.args.format world path target workers)
     (λ world. audit_reads_at world path target) (g.W.Sink.may_fail c.args.output.now) (ended ran.result) _ _
@@ -56,6 +56,6 @@ pub returns-clause-given : goal.returns-clause-given
 returns-clause-given g c =
     let path = c.as_str-path.result.now in
     let wrote = audit_below (g.S.Folders.gives c.args.system.now.folders.now) c.args.table.now.source.now _
-    c.in_ok-files.ensures.given c.args.format path c.args.target.now c.args.workers c.write_audit.result _ _
-    c.write_audit.ensures.given in
+    c.in_ok-files.ensures.given c.args.format path c.args.target.now c.args.workers c.write_audit-answer.result _ _
+    c.write_audit-answer.ensures.given in
     rw c.as_str-path.ensures at wrote

@@ -25,7 +25,7 @@ pub returns-clause-ran : goal.returns-clause-ran
 returns-clause-ran g c =
     let opened = c.in_ok-files.ensures.opened in
     let path = c.as_str-path.result.now in
-    let ran = c.write_changes in
+    let ran = c.write_changes-answer in
     let told = opened_ran (g.S.Folders.below c.args.system.now.folders.now)
     (g.S.Folders.may_fail c.args.system.now.folders.now) opened.0 c.args.table.now.source.now _ _ opened.2
     (λ world. changes_in c.args.format world path c.args.request.now c.args.workers)
@@ -37,6 +37,6 @@ pub returns-clause-given : goal.returns-clause-given
 returns-clause-given g c =
     let path = c.as_str-path.result.now in
     let wrote = changes_below (g.S.Folders.gives c.args.system.now.folders.now) c.args.table.now.source.now _
-    c.in_ok-files.ensures.given c.args.format path c.args.request.now c.args.workers c.write_changes.result _ _
-    c.write_changes.ensures.given in
+    c.in_ok-files.ensures.given c.args.format path c.args.request.now c.args.workers c.write_changes-answer.result _ _
+    c.write_changes-answer.ensures.given in
     rw c.as_str-path.ensures at wrote

@@ -25,7 +25,7 @@ pub returns-clause-ran : goal.returns-clause-ran
 returns-clause-ran g c =
     let opened = c.in_ok-files.ensures.opened in
     let path = c.as_str.result.now in
-    let ran = c.write_plan in
+    let ran = c.write_plan-answer in
     let told = opened_ran (g.S.Folders.below c.args.system.now.folders.now)
     (g.S.Folders.may_fail c.args.system.now.folders.now) opened.0 c.args.table.now.source.now _ _ opened.2
     (λ world. plan_in c.args.format world path c.args.request.now c.args.workers)
@@ -37,6 +37,6 @@ pub returns-clause-given : goal.returns-clause-given
 returns-clause-given g c =
     let path = c.as_str.result.now in
     let wrote = plan_below (g.S.Folders.gives c.args.system.now.folders.now) c.args.table.now.source.now _
-    c.in_ok-files.ensures.given path c.args.request.now c.args.format c.args.workers c.write_plan.result _ _
-    c.write_plan.ensures.given in
+    c.in_ok-files.ensures.given path c.args.request.now c.args.format c.args.workers c.write_plan-answer.result _ _
+    c.write_plan-answer.ensures.given in
     rw c.as_str.ensures at wrote

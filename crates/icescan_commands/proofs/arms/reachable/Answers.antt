@@ -13,13 +13,13 @@ returns-in_err-files-clause-ran g c =
     (λ other. refl))
 
 pub returns-clause-ran : goal.returns-clause-ran
-returns-clause-ran g c = untold_ran (failing_unread (g.W.Sink.may_fail c.args.output.now)) c.part_file.result _ _
-    c.part_file.ensures.nothing
+returns-clause-ran g c = untold_ran (failing_unread (g.W.Sink.may_fail c.args.output.now)) c.part_file-answer.result _ _
+    c.part_file-answer.ensures.nothing
 
 pub returns-clause-given : goal.returns-clause-given
 returns-clause-given g c =
     let path = c.as_str.result.now in
     let wrote = reachable_below (g.S.Folders.gives c.args.system.now.folders.now) c.args.table.now.source.now _
-    c.in_ok-files.ensures.given c.args.format c.args.part.now path c.part_file.result _ _
-    c.part_file.ensures.given in
+    c.in_ok-files.ensures.given c.args.format c.args.part.now path c.part_file-answer.result _ _
+    c.part_file-answer.ensures.given in
     rw c.as_str.ensures at wrote

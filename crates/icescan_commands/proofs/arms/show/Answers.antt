@@ -23,7 +23,7 @@ pub returns-clause-ran : goal.returns-clause-ran
 returns-clause-ran g c =
     let opened = c.in_ok-files.ensures.opened in
     let path = c.as_str-path.result.now in
-    let ran = c.write_shown in
+    let ran = c.write_shown-answer in
     let told = opened_ran (g.S.Folders.below c.args.system.now.folders.now)
     (g.S.Folders.may_fail c.args.system.now.folders.now) opened.0 c.args.table.now.source.now _ _ opened.2
     (λ world. show_in c.args.format world path) (λ world. path ∷ []) (g.W.Sink.may_fail c.args.output.now)
@@ -34,5 +34,5 @@ pub returns-clause-given : goal.returns-clause-given
 returns-clause-given g c =
     let path = c.as_str-path.result.now in
     let wrote = show_below (g.S.Folders.gives c.args.system.now.folders.now) c.args.table.now.source.now _
-    c.in_ok-files.ensures.given c.args.format path c.write_shown.result _ _ c.write_shown.ensures.given in
+    c.in_ok-files.ensures.given c.args.format path c.write_shown-answer.result _ _ c.write_shown-answer.ensures.given in
     rw c.as_str-path.ensures at wrote

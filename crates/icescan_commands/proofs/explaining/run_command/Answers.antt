@@ -1,5 +1,6 @@
 use Rattle.std.proofs.Common.{refl, inl, inr, ap}
-use Rattle.std.specs.Prelude.{Err}
+use Rattle.std.specs.Prelude.{Err, Ok}
+use Rattle.icescan_commands.proofs.Beside.{beside_nothing, beside_plain, plain_then}
 use Rattle.icescan_commands.proofs.Hinted.{tell_more}
 use Rattle.icescan_commands.proofs.explaining.run_command.Goals as goal
 
@@ -12,7 +13,7 @@ returns-in-Ok g c =
       inl (record {
         wrote = record {
           written = ran.2.written;
-          silent = refl;
+          beside = beside_nothing (Ok c.args.asked.now) (g.E.Sink.taken c.args.errors.now);
           ends = (c.in-Ok.count, ran.3, c.status_of_count.ensures);
           drilled = w.drilled;
           of_given = (c.in-Ok.count, c.status_of_count.ensures, w.given);
@@ -22,7 +23,7 @@ returns-in-Ok g c =
         noted = record {
           between = g.E.Sink.taken c.put_reading.new.errors;
           before = c.put_reading.ensures.plain;
-          after = c.put_notes.ensures;
+          after = plain_then _ _ _ (beside_plain (Ok c.args.asked.now) _ _ w.beside) c.put_notes.ensures;
         };
       }),
     )
@@ -35,13 +36,14 @@ returns-in-Err g c =
       inr (record {
         fault = c.in-Err.fault;
         cause = ran.2.refused;
-        status_is = c.explain.ensures.status;
+        status_is = c.explain-status.ensures.status;
         nothing = ran.2.nothing;
         front = λ is. ran.2.front (ap Err is);
         stored = c.in-Err.ensures.stored;
         stored_of_given = c.in-Err.ensures.stored_of_given;
         before = g.E.Sink.taken c.put_reading.new.errors;
         note = c.put_reading.ensures.plain;
-        told = tell_more _ _ _ _ _ c.put_reading.ensures.still c.explain.ensures.told;
+        told = tell_more _ _ _ _ _ c.put_reading.ensures.still
+            (rw c.in-Err.ensures.untold at c.explain-status.ensures.told);
       }),
     )

@@ -6,7 +6,7 @@ use Rattle.icescan_commands.proofs.explaining.run_explained.Goals as goal
 
 pub returns-in-Ok : goal.returns-in-Ok
 returns-in-Ok g c =
-    let ran = c.run_command.ensures in (Ok c.in-Ok.asked, c.in-Ok.ensures, ran.0, ran.1, ran.2)
+    let ran = c.run_command-status.ensures in (Ok c.in-Ok.asked, c.in-Ok.ensures, ran.0, ran.1, ran.2)
 
 pub returns-in-Err : goal.returns-in-Err
 returns-in-Err g c =
@@ -21,13 +21,13 @@ returns-in-Err g c =
       inr (record {
         fault = fault;
         cause = ran.refused;
-        status_is = c.explain_words.ensures.status;
+        status_is = c.explain_words-status.ensures.status;
         nothing = λ _. refl;
         front = λ is. ran.front (ap Err is);
         stored = refl;
         stored_of_given = tt;
         before = g.E.Sink.taken c.args.errors.now;
         note = nothing_plain _;
-        told = c.explain_words.ensures.told;
+        told = c.explain_words-status.ensures.told;
       }),
     )

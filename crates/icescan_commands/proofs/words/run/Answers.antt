@@ -14,6 +14,8 @@ returns-in_err-asked g c =
       tt,
       refl,
       tt,
+      refl,
+      tt,
       tt,
       left_of left,
       is_left left,
@@ -23,9 +25,11 @@ returns-in_err-asked g c =
     )
 
 pub returns : goal.returns
-returns g c = let w = c.run_asked.ensures in (
+returns g c = let w = c.run_asked-answer.ensures in (
   Ok c.in_ok-asked.asked,
   c.in_ok-asked.ensures,
+  w.beside,
+  w.untold,
   w.drilled,
   w.stored,
   w.given,

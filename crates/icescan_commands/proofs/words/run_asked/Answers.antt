@@ -1,7 +1,9 @@
-use Rattle.std.proofs.Common.{refl, rules, ◌≡◌}
+use Rattle.std.proofs.Common.{refl, rules, ◌≡◌, ◌∙◌}
 use Rattle.icescan_words.specs.declared.command.Command.TheVariants as command
+use Rattle.icescan_commands.proofs.Beside.{none_beside, on_err_as, still_same}
 use Rattle.icescan_commands.proofs.Refusals.{is_left, left_of, on_ok_as, ran_as}
 use Rattle.icescan_commands.proofs.Reading.{any_count, counted_as}
+use Rattle.icescan_commands.specs.Runs.{ended}
 use Rattle.icescan_commands.proofs.words.run_asked.Goals as goal
 
 pub returns-in-ListPlan-clause-ran : goal.returns-in-ListPlan-clause-ran
@@ -417,3 +419,170 @@ pub returns-in-Locate-clause-stored_of_given : goal.returns-in-Locate-clause-sto
 returns-in-Locate-clause-stored_of_given g c =
     let asked : c.args.asked.now ≡ command.Locate c.in-Locate.folder c.in-Locate.located = search rules in
     rw asked tt
+
+pub returns-in-ListPlan-clause-beside : goal.returns-in-ListPlan-clause-beside
+returns-in-ListPlan-clause-beside g c =
+    let asked : c.args.asked.now ≡ command.ListPlan c.in-ListPlan.lists c.in-ListPlan.format = search rules in
+    rw asked (none_beside c.no_findings.result (g.E.Sink.taken c.args.errors.now))
+
+pub returns-in-ListPlan-clause-untold : goal.returns-in-ListPlan-clause-untold
+returns-in-ListPlan-clause-untold g c = still_same c.no_findings.result c.args.errors.now
+
+pub returns-in-Plan-clause-beside : goal.returns-in-Plan-clause-beside
+returns-in-Plan-clause-beside g c =
+    let asked : c.args.asked.now ≡
+    command.Plan c.in-Plan.source c.in-Plan.request c.in-Plan.format c.in-Plan.workers c.in-Plan.path =
+    search rules in
+    rw asked (none_beside c.no_findings-in-Plan.result (g.E.Sink.taken c.args.errors.now))
+
+pub returns-in-Plan-clause-untold : goal.returns-in-Plan-clause-untold
+returns-in-Plan-clause-untold g c = still_same c.no_findings-in-Plan.result c.args.errors.now
+
+pub returns-in-Commit-clause-beside : goal.returns-in-Commit-clause-beside
+returns-in-Commit-clause-beside g c =
+    let asked : c.args.asked.now ≡ command.Commit c.in-Commit.source c.in-Commit.request = search rules in
+    rw asked (none_beside c.no_findings-in-Commit.result (g.E.Sink.taken c.args.errors.now))
+
+pub returns-in-Commit-clause-untold : goal.returns-in-Commit-clause-untold
+returns-in-Commit-clause-untold g c = still_same c.no_findings-in-Commit.result c.args.errors.now
+
+pub returns-in-Show-clause-beside : goal.returns-in-Show-clause-beside
+returns-in-Show-clause-beside g c =
+    let asked : c.args.asked.now ≡ command.Show c.in-Show.source c.in-Show.format c.in-Show.path = search rules in
+    rw asked (none_beside c.no_findings-in-Show.result (g.E.Sink.taken c.args.errors.now))
+
+pub returns-in-Show-clause-untold : goal.returns-in-Show-clause-untold
+returns-in-Show-clause-untold g c = still_same c.no_findings-in-Show.result c.args.errors.now
+
+pub returns-in-Columns-clause-beside : goal.returns-in-Columns-clause-beside
+returns-in-Columns-clause-beside g c =
+    let asked : c.args.asked.now ≡
+    command.Columns c.in-Columns.source c.in-Columns.target c.in-Columns.format c.in-Columns.path =
+    search rules in
+    rw asked (none_beside c.no_findings-in-Columns.result (g.E.Sink.taken c.args.errors.now))
+
+pub returns-in-Columns-clause-untold : goal.returns-in-Columns-clause-untold
+returns-in-Columns-clause-untold g c = still_same c.no_findings-in-Columns.result c.args.errors.now
+
+pub returns-in-Audit-clause-beside : goal.returns-in-Audit-clause-beside
+returns-in-Audit-clause-beside g c =
+    let asked : c.args.asked.now ≡
+    command.Audit c.in-Audit.source c.in-Audit.target c.in-Audit.format c.in-Audit.workers c.in-Audit.path =
+    search rules in
+    rw asked (none_beside c.audit.result (g.E.Sink.taken c.args.errors.now))
+
+pub returns-in-Audit-clause-untold : goal.returns-in-Audit-clause-untold
+returns-in-Audit-clause-untold g c = still_same c.audit.result c.args.errors.now
+
+pub returns-in-Explain-clause-beside : goal.returns-in-Explain-clause-beside
+returns-in-Explain-clause-beside g c =
+    let asked : c.args.asked.now ≡
+    command.Explain c.in-Explain.source c.in-Explain.request c.in-Explain.format c.in-Explain.workers c.in-Explain.path =
+    search rules in
+    rw asked (none_beside c.no_findings-in-Explain.result (g.E.Sink.taken c.args.errors.now))
+
+pub returns-in-Explain-clause-untold : goal.returns-in-Explain-clause-untold
+returns-in-Explain-clause-untold g c = still_same c.no_findings-in-Explain.result c.args.errors.now
+
+pub returns-in-Changes-clause-beside : goal.returns-in-Changes-clause-beside
+returns-in-Changes-clause-beside g c =
+    let asked : c.args.asked.now ≡
+    command.Changes c.in-Changes.source c.in-Changes.request c.in-Changes.format c.in-Changes.workers c.in-Changes.path =
+    search rules in
+    rw asked (none_beside c.no_findings-in-Changes.result (g.E.Sink.taken c.args.errors.now))
+
+pub returns-in-Changes-clause-untold : goal.returns-in-Changes-clause-untold
+returns-in-Changes-clause-untold g c = still_same c.no_findings-in-Changes.result c.args.errors.now
+
+pub returns-in-Reachable-clause-beside : goal.returns-in-Reachable-clause-beside
+returns-in-Reachable-clause-beside g c =
+    let asked : c.args.asked.now ≡
+    command.Reachable c.in-Reachable.source c.in-Reachable.part c.in-Reachable.format c.in-Reachable.path =
+    search rules in
+    rw asked (none_beside c.no_findings-in-Reachable.result (g.E.Sink.taken c.args.errors.now))
+
+pub returns-in-Reachable-clause-untold : goal.returns-in-Reachable-clause-untold
+returns-in-Reachable-clause-untold g c = still_same c.no_findings-in-Reachable.result c.args.errors.now
+
+pub returns-in-Orphans-clause-beside : goal.returns-in-Orphans-clause-beside
+returns-in-Orphans-clause-beside g c =
+    let asked : c.args.asked.now ≡
+    command.Orphans c.in-Orphans.place c.in-Orphans.older_than_ms c.in-Orphans.format c.in-Orphans.path =
+    search rules in
+    rw asked (none_beside c.no_findings-in-Orphans.result (g.E.Sink.taken c.args.errors.now))
+
+pub returns-in-Orphans-clause-untold : goal.returns-in-Orphans-clause-untold
+returns-in-Orphans-clause-untold g c = still_same c.no_findings-in-Orphans.result c.args.errors.now
+
+pub returns-in-Locate-clause-beside : goal.returns-in-Locate-clause-beside
+returns-in-Locate-clause-beside g c =
+    let asked : c.args.asked.now ≡ command.Locate c.in-Locate.folder c.in-Locate.located = search rules in
+    rw asked (none_beside c.no_findings-in-Locate.result (g.E.Sink.taken c.args.errors.now))
+
+pub returns-in-Locate-clause-untold : goal.returns-in-Locate-clause-untold
+returns-in-Locate-clause-untold g c = still_same c.no_findings-in-Locate.result c.args.errors.now
+
+pub returns-in-Drill-clause-beside : goal.returns-in-Drill-clause-beside
+returns-in-Drill-clause-beside g c =
+    let asked : c.args.asked.now ≡ command.Drill c.in-Drill.asked = search rules in
+    rw asked (none_beside c.no_findings-in-Drill.result (g.E.Sink.taken c.args.errors.now))
+
+pub returns-in-Drill-clause-untold : goal.returns-in-Drill-clause-untold
+returns-in-Drill-clause-untold g c = still_same c.no_findings-in-Drill.result c.args.errors.now
+
+pub returns-in-Text-clause-beside : goal.returns-in-Text-clause-beside
+returns-in-Text-clause-beside g c =
+    let asked : c.args.asked.now ≡ command.Text c.in-Text.text = search rules in
+    rw asked (none_beside c.no_findings-in-Text.result (g.E.Sink.taken c.args.errors.now))
+
+pub returns-in-Text-clause-untold : goal.returns-in-Text-clause-untold
+returns-in-Text-clause-untold g c = still_same c.no_findings-in-Text.result c.args.errors.now
+
+pub returns-in-Relaxed-clause-ran : goal.returns-in-Relaxed-clause-ran
+returns-in-Relaxed-clause-ran g c =
+    let asked : c.args.asked.now ≡
+    command.Relaxed c.in-Relaxed.what c.in-Relaxed.source c.in-Relaxed.request c.in-Relaxed.format
+    c.in-Relaxed.workers c.in-Relaxed.path = search rules in
+    let told = c.relaxed-answer.ensures.ran in
+    rw asked (
+      told.0,
+      told.1,
+      ran_as _ _ (ended c.relaxed-answer.result) c.no_findings-in-Relaxed.result _ _
+          (c.no_findings-in-Relaxed.ensures.same ∙ c.tell_unasked.ensures.same) told.2,
+      c.no_findings-in-Relaxed.ensures.none,
+    )
+
+pub returns-in-Relaxed-clause-stored : goal.returns-in-Relaxed-clause-stored
+returns-in-Relaxed-clause-stored g c =
+    let asked : c.args.asked.now ≡
+    command.Relaxed c.in-Relaxed.what c.in-Relaxed.source c.in-Relaxed.request c.in-Relaxed.format
+    c.in-Relaxed.workers c.in-Relaxed.path = search rules in
+    rw asked refl
+
+pub returns-in-Relaxed-clause-given : goal.returns-in-Relaxed-clause-given
+returns-in-Relaxed-clause-given g c =
+    let asked : c.args.asked.now ≡
+    command.Relaxed c.in-Relaxed.what c.in-Relaxed.source c.in-Relaxed.request c.in-Relaxed.format
+    c.in-Relaxed.workers c.in-Relaxed.path = search rules in
+    rw asked (counted_as _ (ended c.relaxed-answer.result) c.no_findings-in-Relaxed.result
+    (c.no_findings-in-Relaxed.ensures.same ∙ c.tell_unasked.ensures.same) c.no_findings-in-Relaxed.ensures.none
+    c.relaxed-answer.ensures.given)
+
+pub returns-in-Relaxed-clause-stored_of_given : goal.returns-in-Relaxed-clause-stored_of_given
+returns-in-Relaxed-clause-stored_of_given g c =
+    let asked : c.args.asked.now ≡
+    command.Relaxed c.in-Relaxed.what c.in-Relaxed.source c.in-Relaxed.request c.in-Relaxed.format
+    c.in-Relaxed.workers c.in-Relaxed.path = search rules in
+    rw asked tt
+
+pub returns-in-Relaxed-clause-beside : goal.returns-in-Relaxed-clause-beside
+returns-in-Relaxed-clause-beside g c =
+    let asked : c.args.asked.now ≡
+    command.Relaxed c.in-Relaxed.what c.in-Relaxed.source c.in-Relaxed.request c.in-Relaxed.format
+    c.in-Relaxed.workers c.in-Relaxed.path = search rules in
+    rw asked (on_ok_as _ c.tell_unasked.result c.no_findings-in-Relaxed.result c.no_findings-in-Relaxed.ensures.same
+    c.tell_unasked.ensures.beside)
+
+pub returns-in-Relaxed-clause-untold : goal.returns-in-Relaxed-clause-untold
+returns-in-Relaxed-clause-untold g c = on_err_as _ c.tell_unasked.result c.no_findings-in-Relaxed.result
+    c.no_findings-in-Relaxed.ensures.same c.tell_unasked.ensures.untold

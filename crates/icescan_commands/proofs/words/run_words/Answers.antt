@@ -9,16 +9,16 @@ returns-in-Ok g c =
       run = (
         w.0,
         w.1,
-        w.6,
-        w.7,
+        w.8,
+        w.9,
         inl (record {
-          written = w.8.written;
-          silent = refl;
-          ends = (c.in-Ok.count, w.9, c.status_of_count.ensures);
-          drilled = w.2;
-          stored = w.3;
-          stored_of_given = w.5;
-          of_given = (c.in-Ok.count, c.status_of_count.ensures, w.4);
+          written = w.10.written;
+          beside = w.2;
+          ends = (c.in-Ok.count, w.11, c.status_of_count.ensures);
+          drilled = w.4;
+          stored = w.5;
+          stored_of_given = w.7;
+          of_given = (c.in-Ok.count, c.status_of_count.ensures, w.6);
         }),
       );
     }
@@ -26,22 +26,25 @@ returns-in-Ok g c =
 pub returns-in-Err : goal.returns-in-Err
 returns-in-Err g c =
     let w = c.in-Err.ensures in
-    let ran = w.8 in
+    let ran = w.10 in
     record {
       run = (
         w.0,
         w.1,
-        w.6,
-        w.7,
+        w.8,
+        w.9,
         inr (record {
           fault = c.in-Err.fault;
           cause = ran.refused;
-          status_is = c.report.ensures.status;
+          status_is = c.report-status.ensures.status;
           nothing = ran.nothing;
           front = λ is. ran.front (ap Err is);
-          stored = w.3;
-          stored_of_given = w.5;
-          told = record { front = c.report.ensures.front; all = c.report.ensures.all };
+          stored = w.5;
+          stored_of_given = w.7;
+          told = record {
+            front = rw w.3 at c.report-status.ensures.front;
+            all = rw w.3 at c.report-status.ensures.all;
+          };
         }),
       );
     }
