@@ -281,8 +281,7 @@ def small_objects():
 
 
 def of_unread_json(items, megabytes, of_append):
-    """Metadata with a member that nobody reads. An object with members takes some 880 bytes, whatever it holds. A
-    commit has them twice, as they were and as they will be, so that `append` is over."""
+    """Metadata with a member that nobody reads. An object with members takes some 880 bytes, whatever it holds."""
     metadata = table([(1, "c", "int")], [[]])
     metadata = metadata[:-1] + b',"x":[' + b",".join(items) + b"]}"
     manifest = container(entry_schema(), [entry("mem://t/f")])
