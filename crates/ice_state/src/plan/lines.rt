@@ -87,6 +87,13 @@ impl<'a> PlanFile<'a> {
         self.entry.sequence_number
     }
 
+    /// The sequence number of the commit that added it. An existing entry of an early writer has none.
+    pub fn file_sequence_number(&self) -> Option<SequenceNumber>
+        ensures { result ≡ self.now.file_sequence_number }
+    {
+        self.entry.file_sequence_number
+    }
+
     /// How many rows it has, as its manifest says; any number.
     pub fn record_count(&self) -> i64
         ensures { result ≡ self.now.file.record_count }
