@@ -67,6 +67,13 @@ impl Scan {
         &self.wanted
     }
 
+    /// The partition specs of the table, by their ids.
+    pub fn specs(&self) -> &[Spec]
+        ensures { result.now ≡ self.now.specs }
+    {
+        self.pruning.specs()
+    }
+
     /// The bytes of the largest projection that is made where a manifest is read, about.
     fn most_made(&self) -> usize {
         let mut most: usize = 0;

@@ -127,6 +127,13 @@ impl Pruning {
         })
     }
 
+    /// The specs.
+    pub(crate) fn specs(&self) -> &[Spec]
+        ensures { result.now ≡ self.now.specs }
+    {
+        &self.specs
+    }
+
     /// The spec whose id the row has, where there is one: the first of those that share the id.
     pub(crate) fn spec_of_row(&self, row: &Row) -> Option<&Spec>
         ensures { option_copied result ≡ spec_of self.now.specs row.now.spec_id }
