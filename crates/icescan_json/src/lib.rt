@@ -20,4 +20,4 @@ pub use list_plans::run_list_plan_json;
 pub use plan::{write_plan_json, write_typed_plan};
 pub use table_plans::plan_file_json;
 pub use typed::TypedPlan;
-pub use types::{SpecTypes, types_of_specs};
+pub use types::{SpecTypes, types_of, types_of_specs};
