@@ -455,7 +455,14 @@ def metadata(table):
             {"snapshot-id": SNAPSHOT, "sequence-number": last, "timestamp-ms": 0, "manifest-list": LIST}]})
 
 
+def write_list(place, path, seed, rows):
+    written = {"avro.schema": text(ROW), "avro.codec": b"null", "format-version": b"2"}
+    with open(place + path.removeprefix(LOCATION), "wb") as out:
+        out.write(container(head_of(written), Drawn(seed, "list").bits(128).to_bytes(16, "little"), rows))
+
+
 def write(name, place, share=1.0, seed="icescan"):
+    """Writes a table, and returns the rows of its manifest list."""
     table = TABLES[name].of(share)
     seed = f"{seed} {name}"
     os.makedirs(place + "/metadata")
@@ -463,11 +470,10 @@ def write(name, place, share=1.0, seed="icescan"):
         made = manifests(table)
         words = zip(*[(table, seed, place, *one) for one in made])
         rows = list(workers.map(row, *words, chunksize=max(1, len(made) // 400)))
-    written = {"avro.schema": text(ROW), "avro.codec": b"null", "format-version": b"2"}
-    with open(place + LIST.removeprefix(LOCATION), "wb") as out:
-        out.write(container(head_of(written), Drawn(seed, "list").bits(128).to_bytes(16, "little"), rows))
+    write_list(place, LIST, seed, rows)
     with open(place + METADATA.removeprefix(LOCATION), "wb") as out:
         out.write(metadata(table))
+    return rows
 
 
 def main():

@@ -6,7 +6,9 @@ PROGRAM is the built icescan, or words that run it. A table is made in a new fol
 delete files; of N random pairs of its snapshots (500 where N is not given), in either order, with and without a filter,
 `changes` has to print what this script makes of the two texts that `plan` prints; at some pairs as lines of JSON, at some
 with `--appends`, which has to be refused where the snapshots of the metadata say so. The same of all pairs of snapshots
-of the tables in examples/. Prints one line; the status is 1 where something differs."""
+of the tables in examples/. Of some pairs each manifest is hidden in turn: `changes` must not miss those of data files
+that both snapshots have, where there is no filter and both have the same manifests of delete files, and has to miss all
+others. Prints one line; the status is 1 where something differs."""
 import json
 import os
 import random
@@ -147,6 +149,33 @@ class Table:
                  % (earlier, later, more + tuple(form), got.returncode, want[2], first))
         return want[0].count("\n")
 
+    def manifests(self, snapshot):
+        """The paths of a snapshot's manifests of data files, and those of its manifests of delete files."""
+        kinds, last = {}, None
+        for line in self.run("explain", "--snapshot", str(snapshot)).stdout.split("\n"):
+            word, _, rest = line.partition(" ")
+            if word == "manifest":
+                last = rest.split(" ")[0]
+                kinds[last] = "data"
+            elif word == "delete":
+                kinds[last] = "delete"
+        return [{path for path, kind in kinds.items() if kind == wanted} for wanted in ("data", "delete")]
+
+    def compare_unread(self, folder, earlier, later, more):
+        """How many manifests are not read: each is hidden in turn."""
+        (data, deletes), (its_data, its_deletes) = self.manifests(earlier), self.manifests(later)
+        unread = data & its_data if deletes == its_deletes and not more else set()
+        words = ("changes", "--from", str(earlier), "--to", str(later), *more)
+        want = self.run(*words).stdout
+        for path in data | its_data | deletes | its_deletes:
+            place = os.path.join(folder, path[len(fifty_commits.PREFIX) + 1:])
+            os.rename(place, place + ".hidden")
+            got = self.run(*words)
+            os.rename(place + ".hidden", place)
+            if (got.returncode == 0 and got.stdout == want) != (path in unread):
+                fail("from %s to %s %s without %s: status %d" % (earlier, later, more, path, got.returncode))
+        return len(unread)
+
 
 def made_by_commits(program, folder):
     rng = random.Random(72)
@@ -195,8 +224,13 @@ def main():
         for _ in range(count):
             more = rng.choice([(), ("--filter", "c = 7"), ("--filter", "c is null"), ("--workers", "3")])
             lines += table.compare(rng.randrange(1, COMMITS + 1), rng.randrange(1, COMMITS + 1), more, rng.choice(FORMS))
+        unread = 0
+        for earlier in range(1, COMMITS, 3):
+            for more in [(), ("--filter", "c = 7 or c != 7 or c is null")]:
+                unread += table.compare_unread(folder, earlier, earlier + 1, more)
     pairs, more = compare_examples(words, rng)
-    print("changes: %d pairs of snapshots, %d lines, as the difference of two plans" % (count + pairs, lines + more))
+    print("changes: %d pairs of snapshots, %d lines, as the difference of two plans; %d manifests unread"
+          % (count + pairs, lines + more, unread))
 
 
 if __name__ == "__main__":

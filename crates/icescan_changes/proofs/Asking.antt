@@ -1,5 +1,6 @@
 -- The two plans of which the changes are told, what is told of them, and why either may end the run.
-use Rattle.std.proofs.Common.{◌≡◌, ◌≢◌, ◌⊎◌, inl, inr, ℕ, ◌<◌, ◌≤◌, List, [], ◌∷◌, ◌++◌, refl, sym, subst, ◌∙◌}
+use Rattle.std.proofs.Common.{◌≡◌, ◌≢◌, ◌⊎◌, inl, inr, ℕ, ◌<◌, ◌≤◌, List, [], ◌∷◌, ◌++◌, append_assoc, refl, sym, subst}
+use Rattle.std.proofs.Common.{◌∙◌}
 use Rattle.std.specs.Prelude.{Result, Ok, Err}
 use Rattle.contract_words.specs.Outcome.{◌>>=◌}
 use Rattle.ice_desk.specs.Wanted.{paths_of}
@@ -7,16 +8,18 @@ use Rattle.ice_desk.specs.Worlds.{EndsAt}
 use Rattle.ice_manifest_reading.specs.declared.row.Row.{Row}
 use Rattle.ice_state.specs.Contents.{HasEach, World}
 use Rattle.ice_state.specs.Lines.{OwnedLine}
-use Rattle.icescan_changes.specs.Answers.{both_reads, changes_at, changes_in, changes_reads_at, changes_reads_behind}
-use Rattle.icescan_changes.specs.Answers.{changes_told}
+use Rattle.icescan_changes.specs.Answers.{both_reads, changes_at, changes_between, changes_in, changes_reads_at}
+use Rattle.icescan_changes.specs.Answers.{changes_reads_behind, changes_told, manifests_of, manifests_of_both, plan_of}
+use Rattle.icescan_changes.specs.Answers.{reads_behind_lists}
 use Rattle.icescan_changes.specs.Lineage.{IsOfLineage, lineage_of}
 use Rattle.icescan_forms.specs.declared.format.Format.{Format}
 use Rattle.icescan_requests.specs.ListPlans.{wanted_of}
-use Rattle.icescan_requests.specs.Plans.{answer_by, manifests, manifests_of, over_wanted_rows, reads, reads_of, rows_plan}
-use Rattle.icescan_requests.specs.Plans.{scan_in, wanted_answer}
+use Rattle.icescan_requests.specs.Plans.{manifests, over_wanted_rows, rows_plan, scan_in, selected_rows}
 use Rattle.icescan_requests.specs.Selections.{selected}
-use Rattle.icescan_requests.specs.declared.selection.Selection.{Selection}
+use Rattle.icescan_requests.specs.declared.selected_rows.SelectedRows.{SelectedRows}
 use Rattle.icescan_requests.proofs.Plans.{list_there}
+use Rattle.icescan_shared_manifests.specs.Both.{both_lists, both_rows, list_of}
+use Rattle.icescan_shared_manifests.specs.declared.both_rows.BothRows.{BothRows}
 use Rattle.icescan_text.specs.Reads.{MayEnd, all_present, file_in, rows_at}
 use Rattle.icescan_text.specs.declared.fault.RunFault.{RunFault}
 use Rattle.icescan_text.specs.declared.fault.RunFault.TheVariants as run
@@ -38,31 +41,41 @@ module _ (world : World) (f : List ℕ → Type 0) (rest : List (List ℕ)) (p :
   behind_rows [] h = ends
   behind_rows (row ∷ rows) h = inr (h.0, behind_rows rows h.1)
 
-  -- where a list's rows have a plan, their manifests were there
-  behind_plan : (s : Selection) (rows : List Row) (plan : List OwnedLine)
-      → rows_plan over_wanted_rows world s.specs s.filter.parts rows ≡ Ok plan
-      → EndsAt world f (manifests s.specs s.filter.parts rows ++ rest) p
+  -- where rows have a plan, their manifests were there
+  behind_plan : (s : SelectedRows) (plan : List OwnedLine) → plan_of world s ≡ Ok plan
+      → EndsAt world f (manifests_of s ++ rest) p
   unfolding rows_plan manifests
-  behind_plan s rows plan h =
-      let scan = step (scan_in s.specs s.filter.parts rows) _ plan h in
+  behind_plan s plan h =
+      let scan = step (scan_in s.specs s.filter.parts s.rows) _ plan h in
       let there = step (all_present world scan.0.wanted) _ plan scan.2 in
       subst (λ found. EndsAt world f (wanted_of found ++ rest) p) (sym scan.1)
       (behind_rows scan.0.wanted (has_each world scan.0.wanted there.1))
 
-  -- where there is a plan, all that it needs was there
-  pub behind : (metadata : List ℕ) (request : Request) (plan : List OwnedLine)
-      → wanted_answer world metadata request ≡ Ok plan → EndsAt world f (reads world metadata request ++ rest) p
-  unfolding answer_by reads
-  behind metadata request plan h =
-      let asked = step (selected metadata request) _ plan h in
-      let rows = step (rows_at world asked.0.list) _ plan asked.2 in
+  -- where a list's rows were selected, the list was there
+  behind_list : (metadata : List ℕ) (request : Request) (found : SelectedRows)
+      → selected_rows world metadata request ≡ Ok found
+      → EndsAt world f (list_of (selected metadata request) ++ rest) p
+  unfolding selected_rows
+  behind_list metadata request found h =
+      let asked = step (selected metadata request) _ found h in
+      let rows = step (rows_at world asked.0.list) _ found asked.2 in
       let bytes = list_there world asked.0.list rows.0 rows.1 in
-      let later = fails_later world f asked.0.list bytes.0
-      (manifests asked.0.specs asked.0.filter.parts rows.0 ++ rest) p bytes.1
-      (behind_plan asked.0 rows.0 plan rows.2) in
-      let of_rows = subst (λ found. EndsAt world f (asked.0.list ∷ (manifests_of asked.0 found ++ rest)) p)
-      (sym rows.1) later in
-      subst (λ found. EndsAt world f (reads_of world found ++ rest) p) (sym asked.1) of_rows
+      subst (λ s. EndsAt world f (list_of s ++ rest) p) (sym asked.1)
+      (fails_later world f asked.0.list bytes.0 rest p bytes.1 ends)
+
+-- where the rows of both lists were selected, both lists were there
+behind_lists : (world : World) (f : List ℕ → Type 0) (rest : List (List ℕ)) (p : List ℕ) → EndsAt world f rest p
+    → (metadata : List ℕ) (request : ChangesRequest) (both : BothRows) → both_rows world metadata request ≡ Ok both
+    → EndsAt world f (both_lists metadata request ++ rest) p
+unfolding both_rows
+behind_lists world f rest p ends metadata request both h =
+    let earlier = step (selected_rows world metadata request.earlier) _ both h in
+    let later = step (selected_rows world metadata request.later) _ both earlier.2 in
+    let last = list_of (selected metadata request.later) in
+    subst (λ paths. EndsAt world f paths p)
+    (sym (append_assoc (list_of (selected metadata request.earlier)) last rest))
+    (behind_list world f (last ++ rest) p (behind_list world f rest p ends metadata request.later later.0 later.1)
+    metadata request.earlier earlier.0 earlier.1)
 
 -- ---- a lineage
 
@@ -90,6 +103,35 @@ lineage_ends read w run.Write is h = absurd is
 
 -- ---- two plans
 
+module _ (f : List ℕ → Type 0) (form : Format) (world : World) (both : BothRows) where
+  abbrev stops_between : List ℕ → Type 0
+  stops_between = EndsAt world f (manifests_of_both both)
+
+  pub no_earlier : (e : RunFault)
+      → MayEnd (plan_of world both.earlier) (EndsAt world f (manifests_of both.earlier)) ⊥ e
+      → MayEnd (changes_between form world both) stops_between ⊥ e
+  unfolding changes_between
+  no_earlier e h =
+      first_ends stops_between ⊥ (EndsAt world f (manifests_of both.earlier)) (plan_of world both.earlier) _ e
+      (λ p m. ends_first world f (manifests_of both.earlier) (manifests_of both.later) p m) h
+
+  module _ (earlier : List OwnedLine) (was : plan_of world both.earlier ≡ Ok earlier) where
+    pub no_later : (e : RunFault)
+        → MayEnd (plan_of world both.later) (EndsAt world f (manifests_of both.later)) ⊥ e
+        → MayEnd (changes_between form world both) stops_between ⊥ e
+    unfolding changes_between
+    no_later e h =
+        then_ends stops_between ⊥ (plan_of world both.earlier) _ earlier e was
+        (first_ends stops_between ⊥ (EndsAt world f (manifests_of both.later)) (plan_of world both.later) _ e
+        (λ p m. behind_plan world f (manifests_of both.later) p m both.earlier earlier was) h)
+
+    pub changes_there : (later : List OwnedLine) → plan_of world both.later ≡ Ok later
+        → changes_between form world both ≡ Ok (changes_told form earlier later)
+    unfolding changes_between
+    changes_there later is = rw (was, is) refl
+
+-- ---- the rows of two lists
+
 module _ (f : List ℕ → Type 0) (form : Format) (world : World) (metadata : List ℕ) (request : ChangesRequest) where
   abbrev stops : List ℕ → Type 0
   stops = EndsAt world f (both_reads world metadata request)
@@ -103,34 +145,33 @@ module _ (f : List ℕ → Type 0) (form : Format) (world : World) (metadata : L
 
   module _ (follows : lineage_of metadata request ≡ Ok tt) where
     behind_lineage : changes_in form world metadata request
-        ≡ (wanted_answer world metadata request.earlier >>= λ earlier.
-        wanted_answer world metadata request.later >>= λ later. Ok (changes_told form earlier later))
+        ≡ (both_rows world metadata request >>= λ both. changes_between form world both)
     unfolding changes_in
     behind_lineage = rw follows refl
 
-    pub no_earlier : (e : RunFault)
-        → MayEnd (wanted_answer world metadata request.earlier)
-        (EndsAt world f (reads world metadata request.earlier)) ⊥ e
+    pub no_lists : (e : RunFault)
+        → MayEnd (both_rows world metadata request) (EndsAt world f (both_lists metadata request)) ⊥ e
         → MayEnd (changes_in form world metadata request) stops ⊥ e
-    no_earlier e h = subst (λ x. MayEnd x stops ⊥ e) (sym behind_lineage)
-        (first_ends stops ⊥ (EndsAt world f (reads world metadata request.earlier))
-        (wanted_answer world metadata request.earlier) _ e
-        (λ p m. ends_first world f (reads world metadata request.earlier) (reads world metadata request.later) p m) h)
+    no_lists e h = subst (λ x. MayEnd x stops ⊥ e) (sym behind_lineage)
+        (first_ends stops ⊥ (EndsAt world f (both_lists metadata request)) (both_rows world metadata request) _ e
+        (λ p m. ends_first world f (both_lists metadata request)
+        (reads_behind_lists (both_rows world metadata request)) p m) h)
 
-    module _ (earlier : List OwnedLine) (was : wanted_answer world metadata request.earlier ≡ Ok earlier) where
-      pub no_later : (e : RunFault)
-          → MayEnd (wanted_answer world metadata request.later)
-          (EndsAt world f (reads world metadata request.later)) ⊥ e
+    module _ (both : BothRows) (has : both_rows world metadata request ≡ Ok both) where
+      pub told_of_both : changes_in form world metadata request ≡ changes_between form world both
+      told_of_both = behind_lineage ∙ rw has refl
+
+      reads_of_both : (p : List ℕ) → EndsAt world f (manifests_of_both both) p → stops p
+      reads_of_both p m =
+          subst (λ found. EndsAt world f (both_lists metadata request ++ reads_behind_lists found) p) (sym has)
+          (behind_lists world f (manifests_of_both both) p m metadata request both has)
+
+      pub ends_of_both : (e : RunFault)
+          → MayEnd (changes_between form world both) (EndsAt world f (manifests_of_both both)) ⊥ e
           → MayEnd (changes_in form world metadata request) stops ⊥ e
-      no_later e h = subst (λ x. MayEnd x stops ⊥ e) (sym behind_lineage)
-          (then_ends stops ⊥ (wanted_answer world metadata request.earlier) _ earlier e was
-          (first_ends stops ⊥ (EndsAt world f (reads world metadata request.later))
-          (wanted_answer world metadata request.later) _ e
-          (λ p m. behind world f (reads world metadata request.later) p m metadata request.earlier earlier was) h))
-
-      pub changes_there : (later : List OwnedLine) → wanted_answer world metadata request.later ≡ Ok later
-          → changes_in form world metadata request ≡ Ok (changes_told form earlier later)
-      changes_there later is = behind_lineage ∙ rw (was, is) refl
+      ends_of_both e h = subst (λ x. MayEnd x stops ⊥ e) (sym told_of_both)
+          (more_reads (changes_between form world both) (EndsAt world f (manifests_of_both both)) stops ⊥ e
+          reads_of_both h)
 
 -- ---- the metadata in a file
 

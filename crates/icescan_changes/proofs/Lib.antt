@@ -2,6 +2,7 @@ pub mod Alike
 pub mod Answered
 pub mod Asking
 pub mod Following
+mod JsonTexts
 pub mod Lacking
 pub mod Meaning
 pub mod MoreGiven

@@ -2,6 +2,7 @@ pub mod Answers
 pub mod Changes
 pub mod Files
 pub mod JsonLines
+pub mod JsonPieces
 pub mod Lineage
 pub mod Meanings
 pub mod Texts

@@ -2,16 +2,18 @@
 
 ghost use Rattle.std.specs.Prelude.{◌≡◌, ◌++◌, IfOk, OnOk};
 ghost use Rattle.std.specs.List.{count_by, flat_map};
-ghost use Rattle.icescan_forms.specs.Objects.{object_line, value_json};
-ghost use Rattle.icescan_print.specs.PlanTexts.{ids_text};
-ghost use Rattle.icescan_changes.specs.JsonLines.{change_objects, changes_objects, data_members, data_object};
-ghost use Rattle.icescan_changes.specs.JsonLines.{delete_change, delete_members, delete_object, ids_json, kind_word};
-ghost use Rattle.icescan_changes.specs.JsonLines.{objects_of, totals_members, totals_object};
+ghost use Rattle.serde_json.specs.Written.{compact_text};
+ghost use Rattle.icescan_changes.specs.JsonLines.{change_objects, changes_objects, data_object, delete_change};
+ghost use Rattle.icescan_changes.specs.JsonLines.{delete_object, ids_json, objects_of, totals_members, totals_object};
+ghost use Rattle.icescan_changes.specs.JsonPieces.{data_front, data_head, data_numbers, delete_front, delete_rest};
+ghost use Rattle.icescan_changes.specs.JsonPieces.{kind_front};
+ghost use Rattle.icescan_forms.specs.Objects.{object_line};
 
 use crate::changes::{Change, FileChange, Kind, line_changes};
+use crate::json_text::JsonText;
 use crate::lines::{count_kind, push_ids};
 use ice_state::{Line, Lines, PlanFile, PlanFiles};
-use icescan_forms::{ObjectLines, Value};
+use icescan_forms::Value;
 use std::alloc::{AllocError, Global};
 
 /// The kinds of delete files.
@@ -23,98 +25,117 @@ pub enum DeleteKind {
 
 // ---- data files
 
-/// Puts a data file of these values last, of which this became.
-fn push_data_object<'a>(
-    lines: &mut ObjectLines,
-    became: &'a [u8],
-    path: &'a [u8],
-    seq: u64,
-    spec: i32,
-    rows: i64,
-    size: i64,
-) -> Result<(), AllocError>
-    ensures { OnOk result (lines.new ≡ lines.old
-        ++ object_line (data_members became.now path.now seq spec rows size)) }
+/// Puts the members of a data file last that are numbers, and the end of its line.
+fn put_data_numbers(lines: &mut JsonText, file: &PlanFile<'_>) -> Result<(), AllocError>
+    ensures { OnOk result (lines.new ≡ lines.old ++ data_numbers file.now) }
 {
-    lines.push(&[
-        ("kind", Value::Text(b"data")),
-        ("change", Value::Text(became)),
-        ("path", Value::Text(path)),
-        ("seq", Value::Count(seq as u128)),
-        ("spec", Value::Int(spec)),
-        ("rows", Value::Long(rows)),
-        ("size", Value::Long(size)),
-    ])
+    lines.put_number(b",\"seq\":", file.sequence_number().get())?;
+    lines.put_int(b",\"spec\":", file.spec_id())?;
+    lines.put_long(b",\"rows\":", file.record_count())?;
+    lines.put_long(b",\"size\":", file.file_size())?;
+    lines.put(b"}\n")
+}
+
+/// The first members of the line of a data file.
+#[tactic(auto, unfolding(crate::specs::JsonPieces::data_head))]
+fn data_head() -> &'static [u8]
+    ensures { result.now ≡ data_head }
+{
+    b"{\"kind\":\"data\",\"change\":"
+}
+
+/// Puts the front of the line of a data file last, of which this became.
+fn put_data_front(
+    lines: &mut JsonText,
+    became: &[u8],
+    file: &PlanFile<'_>,
+) -> Result<(), AllocError>
+    ensures { OnOk result (lines.new ≡ lines.old ++ data_front became.now file.now) }
+{
+    lines.put(data_head())?;
+    lines.put_text(became)?;
+    lines.put(b",\"path\":")?;
+    lines.put_text(file.path())
 }
 
 /// Puts a data file last, of which this became.
-#[tactic(auto, unfolding(crate::specs::JsonLines::data_object))]
-fn push_data(lines: &mut ObjectLines, became: &[u8], file: &PlanFile<'_>) -> Result<(), AllocError>
+fn push_data(lines: &mut JsonText, became: &[u8], file: &PlanFile<'_>) -> Result<(), AllocError>
     ensures { OnOk result (lines.new ≡ lines.old ++ data_object became.now file.now) }
 {
-    push_data_object(
-        lines,
-        became,
-        file.path(),
-        file.sequence_number().get(),
-        file.spec_id(),
-        file.record_count(),
-        file.file_size(),
-    )
+    put_data_front(lines, became, file)?;
+    put_data_numbers(lines, file)
 }
 
 // ---- delete files
 
-fn kind_word(kind: DeleteKind) -> &'static [u8]
-    ensures { result.now ≡ kind_word kind }
+/// The front of the line of a delete file of a kind.
+fn kind_front(kind: DeleteKind) -> &'static [u8]
+    ensures { result.now ≡ kind_front kind }
 {
     match kind {
-        DeleteKind::Position => b"pos",
-        DeleteKind::Equality => b"eq",
+        DeleteKind::Position => b"{\"kind\":\"pos\",\"change\":",
+        DeleteKind::Equality => b"{\"kind\":\"eq\",\"change\":",
     }
 }
 
-/// The columns by which a delete file of a kind deletes, of which this is the text.
-fn ids_value<'a>(kind: DeleteKind, ids: &[i32], text: &'a [u8]) -> Value<'a>
-    requires { text.now ≡ ids_text ids.now }
-    ensures { value_json result ≡ ids_json kind ids.now }
-{
-    match kind {
-        DeleteKind::Position => Value::Null,
-        DeleteKind::Equality => match ids {
-            [] => Value::Null,
-            [_first, _rest @ ..] => Value::Text(text),
-        },
-    }
-}
-
-/// Puts a delete file of these values last, of which this became for a data file.
-fn push_delete_object<'a>(
-    lines: &mut ObjectLines,
-    word: &'a [u8],
-    became: &'a [u8],
-    path: &'a [u8],
-    seq: u64,
-    ids: Value<'a>,
-    owner: &'a [u8],
+/// Puts the columns last by which a delete file of a kind deletes.
+fn put_ids(
+    lines: &mut JsonText,
+    alloc: Global,
+    kind: DeleteKind,
+    ids: &[i32],
 ) -> Result<(), AllocError>
-    ensures { OnOk result (lines.new ≡ lines.old
-        ++ object_line (delete_members word.now became.now path.now seq (value_json ids.entry) owner.now)) }
+    ensures { OnOk result (lines.new ≡ lines.old ++ compact_text (ids_json kind ids.now)) }
 {
-    lines.push(&[
-        ("kind", Value::Text(word)),
-        ("change", Value::Text(became)),
-        ("path", Value::Text(path)),
-        ("seq", Value::Count(seq as u128)),
-        ("ids", ids),
-        ("data", Value::Text(owner)),
-    ])
+    match kind {
+        DeleteKind::Position => lines.put(b"null"),
+        DeleteKind::Equality => {
+            if ids.is_empty() {
+                return lines.put(b"null");
+            }
+            let mut text = Vec::new(alloc);
+            push_ids(&mut text, ids)?;
+            lines.put_text(&text)
+        }
+    }
+}
+
+/// Puts the members of a delete file of a kind last that say what is known of it, of which this became.
+fn put_delete_file(
+    lines: &mut JsonText,
+    kind: DeleteKind,
+    became: &[u8],
+    file: &PlanFile<'_>,
+) -> Result<(), AllocError>
+    ensures { OnOk result (lines.new ≡ lines.old ++ delete_front kind became.now file.now) }
+{
+    lines.put(kind_front(kind))?;
+    lines.put_text(became)?;
+    lines.put(b",\"path\":")?;
+    lines.put_text(file.path())?;
+    lines.put_number(b",\"seq\":", file.sequence_number().get())
+}
+
+/// Puts the columns of a delete file of a kind last, and the data file that it is told of.
+fn put_delete_rest(
+    lines: &mut JsonText,
+    alloc: Global,
+    kind: DeleteKind,
+    owner: &[u8],
+    ids: &[i32],
+) -> Result<(), AllocError>
+    ensures { OnOk result (lines.new ≡ lines.old ++ delete_rest kind owner.now ids.now) }
+{
+    lines.put(b",\"ids\":")?;
+    put_ids(lines, alloc, kind, ids)?;
+    lines.put(b",\"data\":")?;
+    lines.put_text(owner)?;
+    lines.put(b"}\n")
 }
 
 /// Puts a delete file of a kind last, of which this became for a data file.
-#[tactic(auto, unfolding(crate::specs::JsonLines::delete_object))]
 fn push_delete(
-    lines: &mut ObjectLines,
+    lines: &mut JsonText,
     alloc: Global,
     kind: DeleteKind,
     became: &[u8],
@@ -123,23 +144,13 @@ fn push_delete(
 ) -> Result<(), AllocError>
     ensures { OnOk result (lines.new ≡ lines.old ++ delete_object kind became.now owner.now file.now) }
 {
-    let mut text = Vec::new(alloc);
-    push_ids(&mut text, file.equality_ids())?;
-    let ids = ids_value(kind, file.equality_ids(), text.as_slice());
-    push_delete_object(
-        lines,
-        kind_word(kind),
-        became,
-        file.path(),
-        file.sequence_number().get(),
-        ids,
-        owner,
-    )
+    put_delete_file(lines, kind, became, file)?;
+    put_delete_rest(lines, alloc, kind, owner, file.equality_ids())
 }
 
 /// Puts the delete files of a kind last that apply to a data file now.
 fn push_deletes(
-    lines: &mut ObjectLines,
+    lines: &mut JsonText,
     alloc: Global,
     kind: DeleteKind,
     became: &[u8],
@@ -156,7 +167,7 @@ fn push_deletes(
 
 /// Puts last what became of a delete file of a kind for a data file.
 fn push_delete_change(
-    lines: &mut ObjectLines,
+    lines: &mut JsonText,
     alloc: Global,
     kind: DeleteKind,
     owner: &[u8],
@@ -172,7 +183,7 @@ fn push_delete_change(
 
 /// Puts last what became of the delete files of a kind for a data file.
 fn push_delete_changes(
-    lines: &mut ObjectLines,
+    lines: &mut JsonText,
     alloc: Global,
     kind: DeleteKind,
     owner: &[u8],
@@ -189,7 +200,7 @@ fn push_delete_changes(
 // ---- changes
 
 /// Puts a data file last that only the later plan has.
-fn push_added(lines: &mut ObjectLines, alloc: Global, line: &Line<'_>) -> Result<(), AllocError>
+fn push_added(lines: &mut JsonText, alloc: Global, line: &Line<'_>) -> Result<(), AllocError>
     ensures { OnOk result (lines.new ≡ lines.old ++ change_objects (Change.Added line.now)) }
 {
     let file = line.file();
@@ -214,7 +225,7 @@ fn push_added(lines: &mut ObjectLines, alloc: Global, line: &Line<'_>) -> Result
 
 /// Puts a data file last to which other delete files apply.
 fn push_altered(
-    lines: &mut ObjectLines,
+    lines: &mut JsonText,
     alloc: Global,
     line: &Line<'_>,
     positions: &[FileChange<'_>],
@@ -230,11 +241,7 @@ fn push_altered(
 }
 
 /// Puts last what became of a data file.
-fn push_change(
-    lines: &mut ObjectLines,
-    alloc: Global,
-    change: &Change<'_>,
-) -> Result<(), AllocError>
+fn push_change(lines: &mut JsonText, alloc: Global, change: &Change<'_>) -> Result<(), AllocError>
     ensures { OnOk result (lines.new ≡ lines.old ++ change_objects change.now) }
 {
     match change {
@@ -254,7 +261,7 @@ fn push_change(
 
 /// Puts changes last.
 fn push_changes(
-    lines: &mut ObjectLines,
+    lines: &mut JsonText,
     alloc: Global,
     changes: &[Change<'_>],
 ) -> Result<(), AllocError>
@@ -268,14 +275,14 @@ fn push_changes(
 
 /// Puts these numbers of data files last.
 fn push_counts(
-    lines: &mut ObjectLines,
+    lines: &mut JsonText,
     added: usize,
     removed: usize,
     altered: usize,
 ) -> Result<(), AllocError>
     ensures { OnOk result (lines.new ≡ lines.old ++ object_line (totals_members added removed altered)) }
 {
-    lines.push(&[
+    lines.put_object(&[
         ("kind", Value::Text(b"totals")),
         ("added", Value::Count(added as u128)),
         ("removed", Value::Count(removed as u128)),
@@ -285,7 +292,7 @@ fn push_counts(
 
 /// Puts last how many data files were added, removed and altered.
 #[tactic(auto, unfolding(crate::specs::JsonLines::totals_object))]
-fn push_totals(lines: &mut ObjectLines, changes: &[Change<'_>]) -> Result<(), AllocError>
+fn push_totals(lines: &mut JsonText, changes: &[Change<'_>]) -> Result<(), AllocError>
     ensures { OnOk result (lines.new ≡ lines.old ++ totals_object changes.now) }
 {
     push_counts(
@@ -308,7 +315,7 @@ pub fn changes_objects<'a>(
     ensures { IfOk result (λ text. text.items ≡ changes_objects earlier.now later.now) }
 {
     let changes = line_changes(alloc, earlier, later)?;
-    let mut lines = ObjectLines::new(alloc)?;
+    let mut lines = JsonText::new(alloc)?;
     push_changes(&mut lines, alloc, &changes)?;
     push_totals(&mut lines, &changes)?;
     lines.into_text()

@@ -4,6 +4,7 @@
 
 mod changes;
 mod json_lines;
+mod json_text;
 pub mod laws;
 mod lineage;
 mod lines;

@@ -1,10 +1,11 @@
 //! The changes from one snapshot of a table to another, over any files.
 
-ghost use Rattle.std.specs.Prelude.{◌≡◌, ◌⊎◌, ◌<◌, ℕ, List, Some, None, Ok, IfErr, IfOk, IsErrOf, OnOk};
+ghost use Rattle.std.specs.Prelude.{◌≡◌, ◌⊎◌, ◌<◌, ◌≤◌, ℕ, length, List, Some, None, Ok, IfErr, IfOk, IsErrOf, OnOk};
 ghost use Rattle.ice_desk.specs.Worlds.{EndsAt, HasAt};
 ghost use Rattle.ice_state.specs.Contents.{World};
-ghost use Rattle.icescan_changes.specs.Answers.{AreChangesOfGiven, WroteChangesOfGiven, both_reads};
-ghost use Rattle.icescan_changes.specs.Answers.{changes_at, changes_in, changes_reads_at, changes_told};
+ghost use Rattle.icescan_changes.specs.Answers.{AreChangesOfBoth, AreChangesOfGiven, WroteChangesOfGiven, both_reads};
+ghost use Rattle.icescan_changes.specs.Answers.{changes_at, changes_in, changes_between, changes_reads_at, changes_told};
+ghost use Rattle.icescan_changes.specs.Answers.{manifests_of_both};
 ghost use Rattle.icescan_forms.specs.declared.format.Format.TheVariants as format;
 ghost use Rattle.icescan_requests.specs.Plans.{OnRefusal};
 ghost use Rattle.icescan_requests.specs.Shows.{WroteFront, WroteText};
@@ -17,7 +18,8 @@ use ice_desk::{Files, Gate};
 use ice_state::Lines;
 use icescan_forms::Format;
 use icescan_print::{Sink, write_all};
-use icescan_requests::plan_table;
+use icescan_requests::plan_rows_by_workers;
+use icescan_shared_manifests::{BothRows, select_both};
 use icescan_text::{ChangesRequest, RunFault, Workers, read_file};
 use std::alloc::{AllocError, Global};
 use std::thread::Threads;
@@ -45,6 +47,33 @@ fn changes_told<'a>(
     }
 }
 
+/// The changes between the plans of both, in a form.
+fn changes_between<R: Threads + Sync, F: Files + Sync>(
+    rt: &R,
+    alloc: Global,
+    files: &F,
+    both: BothRows,
+    format: Format,
+    workers: Workers,
+) -> Result<Vec<u8>, RunFault>
+    requires earlier { length both.earlier.rows ≤ 65536 }
+    requires later { length both.later.rows ≤ 65536 }
+    ensures found { (world : World) → F.world files.now ≡ Some world →
+        IfOk result (λ text. changes_between format world both ≡ Ok text.items) }
+    ensures refused { (world : World) → F.world files.now ≡ Some world →
+        IfErr result (MayEnd (changes_between format world both)
+        (EndsAt world (F.may_fail files.now) (manifests_of_both both)) ⊥) }
+    ensures absent { (path : List ℕ) → IsErrOf result (RunFault.Absent path) → HasAt (F.world files.now) path None }
+    ensures device { (path : List ℕ) → IsErrOf result (RunFault.Device path) → F.may_fail files.now path }
+    ensures write { IsErrOf result RunFault.Write → ⊥ }
+    ensures given { IfOk result (λ text. AreChangesOfBoth format (F.gives files.now) both text.items) }
+{
+    let BothRows { earlier, later } = both;
+    let earlier = plan_rows_by_workers(rt, alloc, files, earlier, workers, &OpenGate)?;
+    let later = plan_rows_by_workers(rt, alloc, files, later, workers, &OpenGate)?;
+    Ok(changes_told(alloc, format, &earlier.lines(), &later.lines())?)
+}
+
 /// The changes that are asked for, in a form, of the table whose metadata these are the bytes of.
 fn changes_in<R: Threads + Sync, F: Files + Sync>(
     rt: &R,
@@ -67,25 +96,8 @@ fn changes_in<R: Threads + Sync, F: Files + Sync>(
         text.items) }
 {
     check_lineage(alloc, metadata, request)?;
-    let earlier = plan_table(
-        rt,
-        alloc,
-        files,
-        metadata,
-        &request.earlier,
-        workers,
-        &OpenGate,
-    )?;
-    let later = plan_table(
-        rt,
-        alloc,
-        files,
-        metadata,
-        &request.later,
-        workers,
-        &OpenGate,
-    )?;
-    Ok(changes_told(alloc, format, &earlier.plan.lines(), &later.plan.lines())?)
+    let both = select_both(alloc, files, metadata, request)?;
+    changes_between(rt, alloc, files, both, format, workers)
 }
 
 /// The same of the table whose metadata is in the file at a path.
@@ -120,7 +132,9 @@ fn changes_at<R: Threads + Sync, F: Files + Sync>(
 ///
 /// The refusal is `Workers` where there are to be none, or more than 64; it comes before all others, and nothing is
 /// read. Then it is `Absent` where there is no such file, `Device` where reading it failed, `Lineage` where each
-/// snapshot between has to be an append and one is none, else that of the earlier plan, and after it that of the later.
+/// snapshot between has to be an append and one is none, else that of the earlier manifest list, of the later one, of
+/// the earlier plan, and of the later. No manifest of data files is read that both snapshots share, where neither plan
+/// has a filter and both have the same manifests of delete files: so a fault in one of these is not found.
 /// Then nothing was written, and neither after `Memory`. After `Write`, for which a write failed, a front of the text
 /// was.
 pub fn changes_file<R: Threads + Sync, F: Files + Sync, W: Sink>(

@@ -1,2 +1,6 @@
 mod LeavingOut
+mod Requests
+mod Schemas
 mod SomeRows
+mod Told
+mod WholePlans

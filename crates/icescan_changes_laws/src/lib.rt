@@ -10,12 +10,18 @@ ghost use Rattle.ice_state.specs.Contents.{World};
 ghost use Rattle.ice_state.specs.Lines.{OwnedLine};
 ghost use Rattle.ice_state.specs.Pruning.{pruner_of};
 ghost use Rattle.ice_state.specs.Snapshots.{plan_of_snapshot};
+ghost use Rattle.icescan_changes.specs.Answers.{changes_in, changes_told};
 ghost use Rattle.icescan_changes.specs.Changes.{line_changes, line_path};
+ghost use Rattle.icescan_changes.specs.Lineage.{lineage_of};
 ghost use Rattle.icescan_changes.specs.Meanings.{IsByPath};
 ghost use Rattle.icescan_changes_laws.specs.Shared.{MayLeaveOut};
+ghost use Rattle.icescan_forms.specs.declared.format.Format.{Format};
+ghost use Rattle.icescan_requests.specs.Plans.{wanted_answer};
+ghost use Rattle.icescan_text.specs.declared.request.ChangesRequest.{ChangesRequest};
 
 use ice_manifest_reading::contents_fit;
-use ice_state_laws::snapshot_plans;
+use ice_state::laws::unfiltered;
+use ice_state_laws::{finished_plans, snapshot_plans};
 
 /// The lines of some paths may be left out of two plans where both plans have them: the changes stay the same.
 pub fn what_both_plans_have_may_be_left_out()
@@ -41,4 +47,18 @@ pub fn shared_manifests_change_nothing()
 {
     contents_fit();
     snapshot_plans();
+}
+
+/// The changes that are asked for are those between the two whole plans, wherever both requests have a plan: what both
+/// lists share and is left out of both plans is not missed.
+pub fn changes_are_of_whole_plans()
+    ensures { (form : Format) (world : World) (metadata : List ℕ) (request : ChangesRequest)
+        (earlier later : List OwnedLine) → lineage_of metadata request ≡ Ok tt →
+        wanted_answer world metadata request.earlier ≡ Ok earlier →
+        wanted_answer world metadata request.later ≡ Ok later →
+        changes_in form world metadata request ≡ Ok (changes_told form earlier later) }
+{
+    finished_plans();
+    unfiltered();
+    shared_manifests_change_nothing();
 }

@@ -1,0 +1,5 @@
+pub mod MoreGiven
+pub mod Rising
+mod SameRows
+pub mod Searches
+mod Selecting
