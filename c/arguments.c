@@ -41,6 +41,33 @@ uint32_t icescan_scan_new_at(icescan_handle *scan, const uint8_t *metadata, size
     return proved_icescan_scan_new_at(scan, some(metadata), metadata_len, snapshot, some(filter), filter_len);
 }
 
+uint32_t icescan_relax_new(icescan_handle *relaxed, const uint8_t *metadata, size_t metadata_len, const uint8_t *name,
+                           size_t name_len, const uint8_t *filter, size_t filter_len) {
+    if (!relaxed || lacks(metadata, metadata_len) || lacks(name, name_len) || lacks(filter, filter_len))
+        return ICESCAN_NULL;
+    return proved_icescan_relax_new(relaxed, some(metadata), metadata_len, some(name), name_len, some(filter),
+                                    filter_len);
+}
+
+uint32_t icescan_relax_new_at(icescan_handle *relaxed, const uint8_t *metadata, size_t metadata_len, int64_t snapshot,
+                              const uint8_t *filter, size_t filter_len) {
+    if (!relaxed || lacks(metadata, metadata_len) || lacks(filter, filter_len))
+        return ICESCAN_NULL;
+    return proved_icescan_relax_new_at(relaxed, some(metadata), metadata_len, snapshot, some(filter), filter_len);
+}
+
+uint32_t icescan_relax_filter(icescan_handle *relaxed, icescan_bytes *text) {
+    return relaxed && text ? proved_icescan_relax_filter(relaxed, text) : ICESCAN_NULL;
+}
+
+uint32_t icescan_relax_count(icescan_handle *relaxed, size_t *count) {
+    return relaxed && count ? proved_icescan_relax_count(relaxed, count) : ICESCAN_NULL;
+}
+
+uint32_t icescan_relax_unasked(icescan_handle *relaxed, size_t i, icescan_bytes *text) {
+    return relaxed && text ? proved_icescan_relax_unasked(relaxed, i, text) : ICESCAN_NULL;
+}
+
 uint32_t icescan_scan_list(icescan_handle *scan, icescan_bytes *path) {
     return scan && path ? proved_icescan_scan_list(scan, path) : ICESCAN_NULL;
 }
@@ -104,6 +131,31 @@ uint32_t icescan_plan_equality(icescan_handle *plan, size_t i, size_t j, icescan
     if (!plan || !file)
         return ICESCAN_NULL;
     return hand_out(proved_icescan_plan_equality(plan, i, j, &told), file, size, &told, sizeof told);
+}
+
+uint32_t icescan_plan_value(icescan_handle *plan, size_t i, size_t k, icescan_value *value, size_t size) {
+    icescan_value told = ICESCAN_NO_VALUE;
+    if (!plan || !value)
+        return ICESCAN_NULL;
+    return hand_out(proved_icescan_plan_value(plan, i, k, &told), value, size, &told, sizeof told);
+}
+
+uint32_t icescan_plan_deletes(icescan_handle *plan, size_t *count) {
+    return plan && count ? proved_icescan_plan_deletes(plan, count) : ICESCAN_NULL;
+}
+
+uint32_t icescan_plan_delete(icescan_handle *plan, size_t n, icescan_file *file, size_t size) {
+    icescan_file told = ICESCAN_NO_FILE;
+    if (!plan || !file)
+        return ICESCAN_NULL;
+    return hand_out(proved_icescan_plan_delete(plan, n, &told), file, size, &told, sizeof told);
+}
+
+uint32_t icescan_plan_delete_value(icescan_handle *plan, size_t n, size_t k, icescan_value *value, size_t size) {
+    icescan_value told = ICESCAN_NO_VALUE;
+    if (!plan || !value)
+        return ICESCAN_NULL;
+    return hand_out(proved_icescan_plan_delete_value(plan, n, k, &told), value, size, &told, sizeof told);
 }
 
 uint32_t icescan_fault(icescan_handle *handle, icescan_bytes *line) {

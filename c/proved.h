@@ -9,6 +9,13 @@ uint32_t proved_icescan_scan_new(icescan_handle *scan, const uint8_t *metadata, 
                                  const uint8_t *name, size_t name_len, const uint8_t *filter, size_t filter_len);
 uint32_t proved_icescan_scan_new_at(icescan_handle *scan, const uint8_t *metadata, size_t metadata_len,
                                     int64_t snapshot, const uint8_t *filter, size_t filter_len);
+uint32_t proved_icescan_relax_new(icescan_handle *relaxed, const uint8_t *metadata, size_t metadata_len,
+                                  const uint8_t *name, size_t name_len, const uint8_t *filter, size_t filter_len);
+uint32_t proved_icescan_relax_new_at(icescan_handle *relaxed, const uint8_t *metadata, size_t metadata_len,
+                                     int64_t snapshot, const uint8_t *filter, size_t filter_len);
+uint32_t proved_icescan_relax_filter(icescan_handle *relaxed, icescan_bytes *text);
+uint32_t proved_icescan_relax_count(icescan_handle *relaxed, size_t *count);
+uint32_t proved_icescan_relax_unasked(icescan_handle *relaxed, size_t i, icescan_bytes *text);
 uint32_t proved_icescan_scan_list(icescan_handle *scan, icescan_bytes *path);
 uint32_t proved_icescan_scan_start(icescan_handle *scan, const uint8_t *list, size_t list_len);
 uint32_t proved_icescan_scan_count(icescan_handle *scan, size_t *count);
@@ -22,6 +29,10 @@ uint32_t proved_icescan_plan_count(icescan_handle *plan, size_t *count);
 uint32_t proved_icescan_plan_file(icescan_handle *plan, size_t i, icescan_file *file);
 uint32_t proved_icescan_plan_position(icescan_handle *plan, size_t i, size_t j, icescan_file *file);
 uint32_t proved_icescan_plan_equality(icescan_handle *plan, size_t i, size_t j, icescan_file *file);
+uint32_t proved_icescan_plan_value(icescan_handle *plan, size_t i, size_t k, icescan_value *value);
+uint32_t proved_icescan_plan_deletes(icescan_handle *plan, size_t *count);
+uint32_t proved_icescan_plan_delete(icescan_handle *plan, size_t n, icescan_file *file);
+uint32_t proved_icescan_plan_delete_value(icescan_handle *plan, size_t n, size_t k, icescan_value *value);
 uint32_t proved_icescan_fault(icescan_handle *handle, icescan_bytes *line);
 void proved_icescan_free(icescan_handle *handle);
 

@@ -51,8 +51,9 @@ static void nothing(const char *what, icescan_handle *none) {
     icescan_handle other = ICESCAN_NOTHING;
     icescan_bytes bytes = {text("before"), 6};
     icescan_file file = ICESCAN_NO_FILE;
+    icescan_value value = ICESCAN_NO_VALUE;
     size_t count = 77;
-    file.record_count = 77;
+    file.record_count = value.whole = 77;
     want(what, icescan_scan_list(none, &bytes), ICESCAN_KIND);
     want(what, icescan_scan_start(none, text("x"), 1), ICESCAN_KIND);
     want(what, icescan_scan_count(none, &count), ICESCAN_KIND);
@@ -66,8 +67,15 @@ static void nothing(const char *what, icescan_handle *none) {
     want(what, icescan_plan_file(none, 0, &file, sizeof file), ICESCAN_KIND);
     want(what, icescan_plan_position(none, 0, 0, &file, sizeof file), ICESCAN_KIND);
     want(what, icescan_plan_equality(none, 0, 0, &file, sizeof file), ICESCAN_KIND);
+    want(what, icescan_plan_value(none, 0, 0, &value, sizeof value), ICESCAN_KIND);
+    want(what, icescan_plan_deletes(none, &count), ICESCAN_KIND);
+    want(what, icescan_plan_delete(none, 0, &file, sizeof file), ICESCAN_KIND);
+    want(what, icescan_plan_delete_value(none, 0, 0, &value, sizeof value), ICESCAN_KIND);
+    want(what, icescan_relax_filter(none, &bytes), ICESCAN_KIND);
+    want(what, icescan_relax_count(none, &count), ICESCAN_KIND);
+    want(what, icescan_relax_unasked(none, 0, &bytes), ICESCAN_KIND);
     want(what, icescan_fault(none, &bytes), ICESCAN_KIND);
-    if (other.held || bytes.len != 6 || count != 77 || file.record_count != 77)
+    if (other.held || bytes.len != 6 || count != 77 || file.record_count != 77 || value.whole != 77)
         want(what, 1, 0);
 }
 
@@ -75,6 +83,7 @@ static void nothing(const char *what, icescan_handle *none) {
 static void null(icescan_handle *scan) {
     icescan_bytes bytes = ICESCAN_NO_BYTES;
     icescan_file file = ICESCAN_NO_FILE;
+    icescan_value value = ICESCAN_NO_VALUE;
     size_t count = 0;
     want("null scan", icescan_scan_new(NULL, text("{"), 1, NULL, 0, NULL, 0), ICESCAN_NULL);
     want("null metadata", icescan_scan_new(scan, NULL, 5, NULL, 0, NULL, 0), ICESCAN_NULL);
@@ -108,9 +117,62 @@ static void null(icescan_handle *scan) {
     want("null file", icescan_plan_position(scan, 0, 0, NULL, sizeof file), ICESCAN_NULL);
     want("null plan", icescan_plan_equality(NULL, 0, 0, &file, sizeof file), ICESCAN_NULL);
     want("null file", icescan_plan_equality(scan, 0, 0, NULL, sizeof file), ICESCAN_NULL);
+    want("null plan", icescan_plan_value(NULL, 0, 0, &value, sizeof value), ICESCAN_NULL);
+    want("null value", icescan_plan_value(scan, 0, 0, NULL, sizeof value), ICESCAN_NULL);
+    want("null plan", icescan_plan_deletes(NULL, &count), ICESCAN_NULL);
+    want("null count", icescan_plan_deletes(scan, NULL), ICESCAN_NULL);
+    want("null plan", icescan_plan_delete(NULL, 0, &file, sizeof file), ICESCAN_NULL);
+    want("null file", icescan_plan_delete(scan, 0, NULL, sizeof file), ICESCAN_NULL);
+    want("null plan", icescan_plan_delete_value(NULL, 0, 0, &value, sizeof value), ICESCAN_NULL);
+    want("null value", icescan_plan_delete_value(scan, 0, 0, NULL, sizeof value), ICESCAN_NULL);
     want("null handle", icescan_fault(NULL, &bytes), ICESCAN_NULL);
     want("null line", icescan_fault(scan, NULL), ICESCAN_NULL);
     icescan_free(NULL);
+}
+
+/* NULL in the calls on relaxed filters. */
+static void null_relaxed(icescan_handle *relaxed) {
+    icescan_bytes bytes = ICESCAN_NO_BYTES;
+    size_t count = 0;
+    want("null relaxed", icescan_relax_new(NULL, text("{"), 1, NULL, 0, NULL, 0), ICESCAN_NULL);
+    want("null metadata", icescan_relax_new(relaxed, NULL, 5, NULL, 0, NULL, 0), ICESCAN_NULL);
+    want("null name", icescan_relax_new(relaxed, text("{"), 1, NULL, 1, NULL, 0), ICESCAN_NULL);
+    want("null filter", icescan_relax_new(relaxed, text("{"), 1, NULL, 0, NULL, 1), ICESCAN_NULL);
+    want("null relaxed", icescan_relax_new_at(NULL, text("{"), 1, 5, NULL, 0), ICESCAN_NULL);
+    want("null metadata", icescan_relax_new_at(relaxed, NULL, 5, 5, NULL, 0), ICESCAN_NULL);
+    want("null filter", icescan_relax_new_at(relaxed, text("{"), 1, 5, NULL, 1), ICESCAN_NULL);
+    want("null relaxed", icescan_relax_filter(NULL, &bytes), ICESCAN_NULL);
+    want("null text", icescan_relax_filter(relaxed, NULL), ICESCAN_NULL);
+    want("null relaxed", icescan_relax_count(NULL, &count), ICESCAN_NULL);
+    want("null count", icescan_relax_count(relaxed, NULL), ICESCAN_NULL);
+    want("null relaxed", icescan_relax_unasked(NULL, 0, &bytes), ICESCAN_NULL);
+    want("null text", icescan_relax_unasked(relaxed, 0, NULL), ICESCAN_NULL);
+}
+
+/* Relaxed filters of a table: what is refused, and what is told of one that is not. */
+static void relaxed(struct file metadata) {
+    icescan_handle made = ICESCAN_NOTHING;
+    icescan_bytes bytes = ICESCAN_NO_BYTES;
+    size_t count = 77;
+    null_relaxed(&made);
+    want("no JSON", icescan_relax_new(&made, text("{]"), 2, NULL, 0, text("true"), 4), ICESCAN_TABLE);
+    want_line("no JSON", &made, "icescan: M");
+    want("no UTF-8", icescan_relax_new(&made, metadata.bytes, metadata.len, text("\xff"), 1, NULL, 0),
+         ICESCAN_ENCODING);
+    want_line("no UTF-8: what was held stays", &made, "icescan: M");
+    want("bad filter", icescan_relax_new(&made, metadata.bytes, metadata.len, NULL, 0, text("= ="), 3), ICESCAN_ASKED);
+    want_line("bad filter", &made, "icescan: F");
+    want("a fault is no filter", icescan_relax_filter(&made, &bytes), ICESCAN_KIND);
+    want("no filter", icescan_relax_new(&made, metadata.bytes, metadata.len, NULL, 0, NULL, 0), ICESCAN_OK);
+    want("no filter", icescan_relax_filter(&made, &bytes), ICESCAN_OK);
+    want("no filter", icescan_relax_count(&made, &count), ICESCAN_OK);
+    if (bytes.len || count)
+        want("no filter asks nothing", 1, 0);
+    want("all is asked", icescan_relax_new_at(&made, metadata.bytes, metadata.len, 5, text("true"), 4), ICESCAN_OK);
+    want("all is asked", icescan_relax_filter(&made, &bytes), ICESCAN_OK);
+    want("past the last", icescan_relax_unasked(&made, 0, &bytes), ICESCAN_PAST_END);
+    want("a filter is no scan", icescan_scan_list(&made, &bytes), ICESCAN_KIND);
+    icescan_free(&made);
 }
 
 int main(int count, char **words) {
@@ -121,12 +183,14 @@ int main(int count, char **words) {
     icescan_handle filtered = ICESCAN_NOTHING, another = ICESCAN_NOTHING;
     icescan_bytes path = ICESCAN_NO_BYTES;
     icescan_file file = ICESCAN_NO_FILE;
+    icescan_value value = ICESCAN_NO_VALUE;
     size_t wanted = 0;
     /* Of the same scan, made anew; of one that wants the same manifests; of one that wants others. */
     const char *filters[] = {"", "true", "ts < 0"};
 
     nothing("no handle", &scan);
     null(&scan);
+    relaxed(metadata);
     icescan_free(&scan);
 
     /* What is asked. */
@@ -191,6 +255,19 @@ int main(int count, char **words) {
     want("bad manifests", icescan_finish(&other), ICESCAN_TABLE);
     want_line("bad manifests", &other, "icescan: Z2 Bad");
     want("a fault is no plan", icescan_plan_file(&other, 0, &file, sizeof file), ICESCAN_KIND);
+
+    /* A plan: past the last of what it has. */
+    want("filtered", icescan_scan_new(&filtered, metadata.bytes, metadata.len, NULL, 0, text("false"), 5), ICESCAN_OK);
+    want("filtered", icescan_scan_start(&filtered, list.bytes, list.len), ICESCAN_OK);
+    want("filtered", icescan_state_new(&filtered, &another), ICESCAN_OK);
+    want("an empty plan", icescan_finish(&another), ICESCAN_OK);
+    want("no delete files", icescan_plan_deletes(&another, &wanted), ICESCAN_OK);
+    if (wanted)
+        want("no delete files", 1, 0);
+    want("no file", icescan_plan_file(&another, 0, &file, sizeof file), ICESCAN_PAST_END);
+    want("no value", icescan_plan_value(&another, 0, 0, &value, sizeof value), ICESCAN_PAST_END);
+    want("no delete file", icescan_plan_delete(&another, 0, &file, sizeof file), ICESCAN_PAST_END);
+    want("no value", icescan_plan_delete_value(&another, 0, 0, &value, sizeof value), ICESCAN_PAST_END);
 
     icescan_free(&other);
     icescan_free(&other);

@@ -1,7 +1,7 @@
-/* icescan for C: which files a scan of an Apache Iceberg table (format version 2) has to read.
- *
- * Rows that are read must still be filtered: a plan leaves out files, and a file that it has may hold rows that do not
+/* Rows that are read must still be filtered: a plan leaves out files, and a file that it has may hold rows that do not
  * meet the filter.
+ *
+ * icescan for C: which files a scan of an Apache Iceberg table (format version 2) has to read.
  *
  * The caller reads files and has threads; the library is handed bytes and gives the plan:
  *
@@ -23,7 +23,7 @@
  *
  * Each call answers how it ended. Of one scan there may be many states, each in a thread of its own;
  * icescan_state_absorb and icescan_state_merge bring together what they took, in any order, and the plan is that of one
- * state that took every manifest. A plan names files: it has no partition values, no bounds and no formats.
+ * state that took every manifest. A plan names files, with their formats and partition values: it has no bounds.
  *
  * Files. The library opens none. A path that it lends is the table's own, as s3://warehouse/t/metadata/m0.avro: bytes
  * of UTF-8, without a 0 at their end. What is handed in is the whole file: metadata of format version 2 as JSON that is
@@ -39,7 +39,8 @@
  *     key = x'00ff'                     bytes in hexadecimal digits; a uuid is a text
  *     place."post code" = '0150'        a dot leads into a struct; double quotes are for names that are no plain words
  *
- * `true` and `false` are filters too. Floats, doubles, decimals, lists and maps are not compared.
+ * `true` and `false` are filters too. Floats, doubles, decimals, lists and maps are not compared: such a filter is
+ * refused, and icescan_relax_new makes one of it that is not.
  *
  * Handles. A handle is ICESCAN_NOTHING before it is first handed in. The library alone writes it, and the caller never
  * copies it. It goes to one call at a time, also where the call only reads, and no call is given one handle twice: so
@@ -48,14 +49,14 @@
  * and plan in any order.
  *
  * What is lent by pointer and length is read only. It stays until the next call that changes what the handle holds:
- * icescan_free, icescan_scan_new, icescan_scan_new_at, icescan_scan_start, icescan_finish, icescan_state_absorb on the
- * other's handle, and icescan_state_new on the state's handle.
+ * icescan_free, icescan_scan_new, icescan_scan_new_at, icescan_relax_new, icescan_relax_new_at, icescan_scan_start,
+ * icescan_finish, icescan_state_absorb on the other's handle, and icescan_state_new on the state's handle.
  *
  * Bytes that are handed in are read during the call and never after it. The library can't tell whether they are there.
  *
- * What is written to, a count or a file, has some value before, as 0 or ICESCAN_NO_FILE. A call that is refused leaves
- * it as it was. icescan_file may grow at its end in later versions: the caller says how large it is, and fields that the
- * library does not know stay as they were.
+ * What is written to, a count, a file or a value, has something in it before, as 0 or ICESCAN_NO_FILE. A call that is
+ * refused leaves it as it was. icescan_file and icescan_value may grow at their ends in later versions: the caller says
+ * how large they are, and fields that the library does not know stay as they were.
  *
  * A handle that holds nothing, or was freed, or holds another kind of thing; a number past the end; NULL in place of a
  * handle, of bytes or of what is written to; a text that is no UTF-8; metadata, a list or a manifest that is none: each
@@ -93,7 +94,7 @@ enum {
     ICESCAN_NULL = 10       /* NULL in place of a handle, of bytes, or of what is written to */
 };
 
-/* A scan, a state, a plan, or the line of a fault; nothing where `held` is NULL. */
+/* A scan, a state, a plan, a relaxed filter, or the line of a fault; nothing where `held` is NULL. */
 typedef struct {
     void *held;
 } icescan_handle;
@@ -124,9 +125,42 @@ typedef struct {
     size_t positions;          /* of a data file: how many position delete files apply to it */
     size_t equalities;         /* and how many equality delete files */
     int32_t spec_id;
+    uint32_t format;           /* as below; ICESCAN_NO_FORMAT where its manifest names none that is known */
+    size_t number;             /* among the data files of the plan, or among its delete files */
+    size_t values;             /* how many partition values it has */
+    uint64_t file_sequence_number; /* of the commit that added it, or ICESCAN_NO_NUMBER: an early writer left it out */
 } icescan_file;
 
-#define ICESCAN_NO_FILE {{NULL, 0}, {NULL, 0}, 0, 0, 0, 0, 0, 0}
+#define ICESCAN_NO_FILE {{NULL, 0}, {NULL, 0}, 0, 0, 0, 0, 0, 0, 0, 0, 0, 0}
+#define ICESCAN_NO_NUMBER UINT64_MAX
+
+enum {
+    ICESCAN_NO_FORMAT = 0,
+    ICESCAN_AVRO = 1,
+    ICESCAN_ORC = 2,
+    ICESCAN_PARQUET = 3
+};
+
+/* A partition value. The field of its spec says what it means: an int, a long, a date, a time or a timestamp is a whole
+ * number, of days or microseconds; a uuid, a fixed and a binary are their bytes; a decimal is its unscaled number, in
+ * two's complement with the most significant byte first. The bytes of a text and of a byte string are what the table
+ * format calls the single-value form; that of a whole number is 4 bytes for an int or a date and else 8, the least
+ * significant first. */
+typedef struct {
+    icescan_bytes bytes;       /* of a text or of a byte string */
+    int64_t whole;             /* a whole number; of a boolean 1 for true and 0 for false */
+    uint32_t kind;             /* as below */
+} icescan_value;
+
+#define ICESCAN_NO_VALUE {{NULL, 0}, 0, 0}
+
+enum {
+    ICESCAN_NULL_VALUE = 0,
+    ICESCAN_BOOLEAN = 1,
+    ICESCAN_WHOLE = 2,
+    ICESCAN_TEXT = 3,
+    ICESCAN_BINARY = 4
+};
 
 /* Asks for the snapshot that a branch or tag names, for the current one where the name is empty, under a filter where
  * its text is not empty. `metadata` has the bytes of the table's metadata file. The scan's handle holds what that
@@ -140,6 +174,22 @@ uint32_t icescan_scan_new(icescan_handle *scan, const uint8_t *metadata, size_t 
 /* The same for the snapshot of an id. */
 uint32_t icescan_scan_new_at(icescan_handle *scan, const uint8_t *metadata, size_t metadata_len, int64_t snapshot,
                              const uint8_t *filter, size_t filter_len);
+
+/* Relaxes a filter: a predicate that can't be asked of its column, as of one of floats, is not asked, and `true` stands
+ * in its place. No row that meets the filter is lost. The snapshot, whose columns are meant, is named as for
+ * icescan_scan_new and icescan_scan_new_at; that it is not there is told by these alone. The handle holds the relaxed
+ * filter then, after a refusal what icescan_scan_new leaves. */
+uint32_t icescan_relax_new(icescan_handle *relaxed, const uint8_t *metadata, size_t metadata_len, const uint8_t *name,
+                           size_t name_len, const uint8_t *filter, size_t filter_len);
+uint32_t icescan_relax_new_at(icescan_handle *relaxed, const uint8_t *metadata, size_t metadata_len, int64_t snapshot,
+                              const uint8_t *filter, size_t filter_len);
+
+/* Lends the text of the relaxed filter, to be asked by icescan_scan_new: no bytes where no filter was handed in. Tells
+ * how many predicates it does not ask, and lends the text of one of them, counted from 0, in the order of the filter:
+ * ICESCAN_PAST_END from that count on. */
+uint32_t icescan_relax_filter(icescan_handle *relaxed, icescan_bytes *text);
+uint32_t icescan_relax_count(icescan_handle *relaxed, size_t *count);
+uint32_t icescan_relax_unasked(icescan_handle *relaxed, size_t i, icescan_bytes *text);
 
 /* Lends the path of the snapshot's manifest list. Once the scan is started there is none: ICESCAN_KIND. */
 uint32_t icescan_scan_list(icescan_handle *scan, icescan_bytes *path);
@@ -185,6 +235,17 @@ uint32_t icescan_plan_count(icescan_handle *plan, size_t *count);
 uint32_t icescan_plan_file(icescan_handle *plan, size_t i, icescan_file *file, size_t size);
 uint32_t icescan_plan_position(icescan_handle *plan, size_t i, size_t j, icescan_file *file, size_t size);
 uint32_t icescan_plan_equality(icescan_handle *plan, size_t i, size_t j, icescan_file *file, size_t size);
+
+/* Lends the partition value k of the data file i, in the order of its spec's fields: ICESCAN_PAST_END from the count on
+ * that its icescan_file has, and where there is no such file. `size` is sizeof *value. */
+uint32_t icescan_plan_value(icescan_handle *plan, size_t i, size_t k, icescan_value *value, size_t size);
+
+/* Tells how many delete files the plan has, and lends each once, in the order of their paths, counted from 0; and its
+ * partition values. Where it is lent as one of a data file's, its icescan_file has this number too. There may be some
+ * that apply to no data file of the plan. */
+uint32_t icescan_plan_deletes(icescan_handle *plan, size_t *count);
+uint32_t icescan_plan_delete(icescan_handle *plan, size_t n, icescan_file *file, size_t size);
+uint32_t icescan_plan_delete_value(icescan_handle *plan, size_t n, size_t k, icescan_value *value, size_t size);
 
 /* Lends the line that a handle holds after a call on it that answered ICESCAN_TABLE or ICESCAN_ASKED, with the line
  * feed at its end; no bytes where memory ran out for it. It is the line that the program `icescan` writes then. */

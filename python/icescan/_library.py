@@ -9,7 +9,7 @@ import ctypes.util
 import functools
 import os
 from ctypes import POINTER, Structure, byref, c_char_p, c_int32, c_int64, c_size_t, c_uint32, c_uint64, c_void_p
-from typing import Any, Tuple
+from typing import Any, Tuple, Union
 
 from ._errors import BY_STATUS, Error, LibraryNotFound
 
@@ -56,17 +56,45 @@ class File(Structure):
         ("positions", c_size_t),
         ("equalities", c_size_t),
         ("spec_id", c_int32),
+        ("format", c_uint32),
+        ("number", c_size_t),
+        ("values", c_size_t),
+        ("file_sequence_number", c_uint64),
     ]
+
+
+class Value(Structure):
+    """A partition value."""
+
+    _fields_ = [("bytes", Bytes), ("whole", c_int64), ("kind", c_uint32)]
+
+    def read(self) -> Union[None, bool, int, str, bytes]:
+        """A copy of it."""
+        return (
+            lambda: None,
+            lambda: self.whole != 0,
+            lambda: self.whole,
+            self.bytes.text,
+            self.bytes.read,
+        )[self.kind]()
 
 
 # The version of the library that this package is made for.
 VERSION = 100
+# The names of formats by their numbers, and the number that stands for none.
+FORMATS = (None, "avro", "orc", "parquet")
+NO_NUMBER = 2**64 - 1
 # The statuses after which a handle holds the line of a fault.
 WITH_LINE = (1, 2, 5)
 GIVEN = (c_char_p, c_size_t)
 CALLS = {
     "scan_new": (*GIVEN, *GIVEN, *GIVEN),
     "scan_new_at": (*GIVEN, c_int64, *GIVEN),
+    "relax_new": (*GIVEN, *GIVEN, *GIVEN),
+    "relax_new_at": (*GIVEN, c_int64, *GIVEN),
+    "relax_filter": (POINTER(Bytes),),
+    "relax_count": (POINTER(c_size_t),),
+    "relax_unasked": (c_size_t, POINTER(Bytes)),
     "scan_list": (POINTER(Bytes),),
     "scan_start": GIVEN,
     "scan_count": (POINTER(c_size_t),),
@@ -80,6 +108,10 @@ CALLS = {
     "plan_file": (c_size_t, POINTER(File), c_size_t),
     "plan_position": (c_size_t, c_size_t, POINTER(File), c_size_t),
     "plan_equality": (c_size_t, c_size_t, POINTER(File), c_size_t),
+    "plan_value": (c_size_t, c_size_t, POINTER(Value), c_size_t),
+    "plan_deletes": (POINTER(c_size_t),),
+    "plan_delete": (c_size_t, POINTER(File), c_size_t),
+    "plan_delete_value": (c_size_t, c_size_t, POINTER(Value), c_size_t),
     "fault": (POINTER(Bytes),),
 }
 
@@ -148,11 +180,11 @@ class Held:
         self.call(name, byref(count))
         return count.value
 
-    def path(self, name: str, *words: Any) -> str:
-        """The path that the function of this name lends."""
-        path = Bytes()
-        self.call(name, *words, byref(path))
-        return path.text()
+    def text(self, name: str, *words: Any) -> str:
+        """The path or the text that the function of this name lends."""
+        text = Bytes()
+        self.call(name, *words, byref(text))
+        return text.text()
 
 
 def told(to: Structure) -> Tuple[Any, int]:

@@ -4,13 +4,20 @@ from __future__ import annotations
 import collections
 import concurrent.futures
 import ctypes
+import dataclasses
 import os
 from ctypes import byref
 from dataclasses import dataclass
-from typing import Any, Deque, Dict, Iterator, List, Optional, Tuple, Union
+from typing import Any, Deque, Dict, Iterator, List, Optional, Set, Tuple, Union
 
 from ._files import Folder, Read, read_local
-from ._library import File, Held, given, loaded, place, told
+from ._library import FORMATS, NO_NUMBER, File, Held, given, loaded, place, told
+from ._library import Value as LentValue
+
+# A partition value, as the table has it: a date is days, and a time or a timestamp microseconds; a uuid is its bytes,
+# and a decimal the bytes of its unscaled number, the most significant first.
+Value = Union[None, bool, int, str, bytes]
+
 
 @dataclass(frozen=True)
 class DeleteFile:
@@ -22,13 +29,17 @@ class DeleteFile:
     record_count: int
     file_size: int
     equality_ids: Tuple[int, ...] = ()
+    format: Optional[str] = None
+    partition: Tuple[Value, ...] = ()
+    file_sequence_number: Optional[int] = None
 
 
 @dataclass(frozen=True)
 class DataFile:
     """A data file that the scan has to read, and the delete files that apply to it, in the order of their paths.
 
-    Its counts are as its manifest says.
+    Its counts are as its manifest says. `format` is avro, orc or parquet, or None where the manifest names no such
+    format; `partition` has a value for each field of its partition spec.
     """
 
     path: str
@@ -38,6 +49,9 @@ class DataFile:
     file_size: int
     position_deletes: Tuple[DeleteFile, ...] = ()
     equality_deletes: Tuple[DeleteFile, ...] = ()
+    format: Optional[str] = None
+    partition: Tuple[Value, ...] = ()
+    file_sequence_number: Optional[int] = None
 
 
 @dataclass(frozen=True)
@@ -45,9 +59,13 @@ class Plan:
     """The data files of a scan, in the order of their paths.
 
     A file is left out only where none of its rows can meet the filter: rows that are read must still be filtered.
+    `delete_files` has the delete files that apply to one of them, each once, in the order of their paths. `unasked` has
+    the predicates that a relaxed filter does not ask.
     """
 
     files: Tuple[DataFile, ...]
+    delete_files: Tuple[DeleteFile, ...] = ()
+    unasked: Tuple[str, ...] = ()
 
     def __iter__(self) -> Iterator[DataFile]:
         return iter(self.files)
@@ -78,11 +96,13 @@ def plan(
     prefix: str = "",
     read: Optional[Read] = None,
     workers: int = 4,
+    relax: bool = False,
 ) -> Plan:
     """Plans a scan of the table whose metadata file is at the path `metadata`, as the table knows it.
 
     `filter` says which rows are asked for, as `id = 42 and cat != 'books'`; an empty one asks for all. `ref` names a
-    branch or a tag, `snapshot` is the id of a snapshot; without them the current snapshot is planned.
+    branch or a tag, `snapshot` is the id of a snapshot; without them the current snapshot is planned. With `relax` a
+    predicate that can't be asked of its column, as of one of floats, is not asked, and the plan says which those are.
 
     The table's files are read below `folder`, which stands for the front `prefix` of the table's paths, or by `read`, a
     function that takes a path of the table and gives the file's bytes: as many threads as `workers` call it at once.
@@ -98,39 +118,59 @@ def plan(
         raise ValueError("there is at least one worker")
     if read is None:
         read = read_local if folder is None else Folder(folder, prefix)
-    with started(loaded(place()), metadata, read, filter, ref, snapshot) as scan:
+    library = loaded(place())
+    asked, unasked = Asked(bytes(read(metadata)), ref, snapshot, filter), ()
+    if relax:
+        asked, unasked = relaxed(library, asked)
+    with started(library, asked, read) as scan:
         with finished(scan, read, workers) as held:
-            return Plan(files_of(held))
+            return plan_of(held, unasked)
 
 
-def started(
-    library: ctypes.CDLL, metadata: str, read: Read, filter: str, ref: Optional[str], snapshot: Optional[int]
-) -> Held:
+@dataclass(frozen=True)
+class Asked:
+    """What is asked of a table, whose metadata these are the bytes of."""
+
+    metadata: bytes
+    ref: Optional[str]
+    snapshot: Optional[int]
+    filter: str
+
+    def ask(self, held: Held, name: str) -> None:
+        """Calls the function of this name, or that for the id of a snapshot."""
+        text = given(self.filter.encode("utf-8", "surrogatepass"))
+        if self.snapshot is None:
+            ref = (self.ref or "").encode("utf-8", "surrogatepass")
+            held.call(name, *given(self.metadata), *given(ref), *text)
+        elif -(2**63) <= self.snapshot < 2**63:
+            held.call(f"{name}_at", *given(self.metadata), self.snapshot, *text)
+        else:
+            raise ValueError("the id of a snapshot has 64 bits")
+
+
+def relaxed(library: ctypes.CDLL, asked: Asked) -> Tuple[Asked, Tuple[str, ...]]:
+    """The same without the predicates that can't be asked, and these."""
+    with Held(library) as held:
+        asked.ask(held, "relax_new")
+        unasked = tuple(held.text("relax_unasked", i) for i in range(held.count("relax_count")))
+        return dataclasses.replace(asked, filter=held.text("relax_filter")), unasked
+
+
+def started(library: ctypes.CDLL, asked: Asked, read: Read) -> Held:
     """The scan that is asked for."""
     scan = Held(library)
     try:
-        select(scan, bytes(read(metadata)), ref, snapshot, filter)
-        scan.call("scan_start", *given(bytes(read(scan.path("scan_list")))))
+        asked.ask(scan, "scan_new")
+        scan.call("scan_start", *given(bytes(read(scan.text("scan_list")))))
     except BaseException:
         scan.free()
         raise
     return scan
 
 
-def select(scan: Held, metadata: bytes, ref: Optional[str], snapshot: Optional[int], filter: str) -> None:
-    """Has the scan's handle hold what is asked for."""
-    text = given(filter.encode("utf-8", "surrogatepass"))
-    if snapshot is None:
-        scan.call("scan_new", *given(metadata), *given((ref or "").encode("utf-8", "surrogatepass")), *text)
-    elif -(2**63) <= snapshot < 2**63:
-        scan.call("scan_new_at", *given(metadata), snapshot, *text)
-    else:
-        raise ValueError("the id of a snapshot has 64 bits")
-
-
 def finished(scan: Held, read: Read, workers: int) -> Held:
     """The plan of a scan, whose manifests are read by so many threads."""
-    paths = [scan.path("scan_wanted", i) for i in range(scan.count("scan_count"))]
+    paths = [scan.text("scan_wanted", i) for i in range(scan.count("scan_count"))]
     states = [Held(scan.library) for _ in range(max(1, min(workers, len(paths))))]
     try:
         for state in states:
@@ -183,41 +223,67 @@ def take_all(states: List[Held], paths: List[str], read: Read) -> None:
         states[0].call("state_absorb", byref(other.handle))
 
 
-def files_of(held: Held) -> Tuple[DataFile, ...]:
-    """The data files of a plan. A delete file that applies to several is one object."""
-    known: Dict[DeleteFile, DeleteFile] = {}
-    return tuple(data_file(held, i, known) for i in range(held.count("plan_count")))
+def plan_of(held: Held, unasked: Tuple[str, ...]) -> Plan:
+    """The plan that a handle holds. A delete file that applies to several data files is one object."""
+    deletes = [delete_file(held, n) for n in range(held.count("plan_deletes"))]
+    used: Set[int] = set()
+    files = tuple(data_file(held, i, deletes, used) for i in range(held.count("plan_count")))
+    return Plan(files, tuple(deletes[n] for n in sorted(used)), unasked)
 
 
-def data_file(held: Held, i: int, known: Dict[DeleteFile, DeleteFile]) -> DataFile:
+def data_file(held: Held, i: int, deletes: List[DeleteFile], used: Set[int]) -> DataFile:
     """The data file `i` of a plan."""
     file = File()
     held.call("plan_file", i, *told(file))
     return DataFile(
         **shared_of(file),
-        position_deletes=deletes_of(held, "plan_position", i, file.positions, known),
-        equality_deletes=deletes_of(held, "plan_equality", i, file.equalities, known),
+        position_deletes=deletes_of(held, "plan_position", i, file.positions, deletes, used),
+        equality_deletes=deletes_of(held, "plan_equality", i, file.equalities, deletes, used),
+        partition=values_of(held, "plan_value", i, file.values),
     )
 
 
 def deletes_of(
-    held: Held, name: str, i: int, count: int, known: Dict[DeleteFile, DeleteFile]
+    held: Held, name: str, i: int, count: int, deletes: List[DeleteFile], used: Set[int]
 ) -> Tuple[DeleteFile, ...]:
     """The delete files of one kind that apply to the data file `i`."""
-    files, file = [], File()
+    numbers, file = [], File()
     for j in range(count):
         held.call(name, i, j, *told(file))
-        delete = DeleteFile(**shared_of(file), equality_ids=file.equality_ids.read())
-        files.append(known.setdefault(delete, delete))
-    return tuple(files)
+        numbers.append(file.number)
+    used.update(numbers)
+    return tuple(deletes[n] for n in numbers)
+
+
+def delete_file(held: Held, n: int) -> DeleteFile:
+    """The delete file `n` of a plan."""
+    file = File()
+    held.call("plan_delete", n, *told(file))
+    return DeleteFile(
+        **shared_of(file),
+        equality_ids=file.equality_ids.read(),
+        partition=values_of(held, "plan_delete_value", n, file.values),
+    )
+
+
+def values_of(held: Held, name: str, i: int, count: int) -> Tuple[Value, ...]:
+    """The partition values of a file."""
+    values, value = [], LentValue()
+    for k in range(count):
+        held.call(name, i, k, *told(value))
+        values.append(value.read())
+    return tuple(values)
 
 
 def shared_of(file: File) -> Dict[str, Any]:
     """What data files and delete files have."""
+    added = file.file_sequence_number
     return {
         "path": file.path.text(),
         "sequence_number": file.sequence_number,
         "spec_id": file.spec_id,
         "record_count": file.record_count,
         "file_size": file.file_size,
+        "format": FORMATS[file.format],
+        "file_sequence_number": None if added == NO_NUMBER else added,
     }

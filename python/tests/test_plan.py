@@ -51,10 +51,15 @@ def events(**asked):
     return icescan.plan(EVENTS_METADATA, folder=folder_of("events-java"), prefix=EVENTS, **asked)
 
 
+def plain():
+    return icescan.plan(PLAIN_METADATA, folder=folder_of("plain-java"), prefix=PLAIN)
+
+
 def one_plan():
     """The plan of the table of events, as the library holds it."""
     read = icescan.Folder(folder_of("events-java"), EVENTS)
-    with _plan.started(_library.loaded(_library.place()), EVENTS_METADATA, read, "", None, None) as scan:
+    asked = _plan.Asked(read(EVENTS_METADATA), None, None, "")
+    with _plan.started(_library.loaded(_library.place()), asked, read) as scan:
         return _plan.finished(scan, read, 1)
 
 
@@ -65,8 +70,7 @@ class Plans(unittest.TestCase):
                 self.assertEqual(events(**asked).text(), expected("events-java", name))
 
     def test_plain(self):
-        plan = icescan.plan(PLAIN_METADATA, folder=folder_of("plain-java"), prefix=PLAIN)
-        self.assertEqual(plan.text(), expected("plain-java", "list-plan"))
+        self.assertEqual(plain().text(), expected("plain-java", "list-plan"))
 
     def test_any_number_of_workers(self):
         for workers in (1, 2, 3, 16):
@@ -85,6 +89,49 @@ class Plans(unittest.TestCase):
         deletes = [it for file in events() for it in file.equality_deletes]
         self.assertEqual(len({id(it) for it in deletes}), len(set(deletes)))
         self.assertIn((1, 3), {it.equality_ids for it in deletes})
+
+    def test_delete_files_stand_once(self):
+        plan = events()
+        used = {it for file in plan for it in file.position_deletes + file.equality_deletes}
+        self.assertEqual(set(plan.delete_files), used)
+        self.assertEqual([it.path for it in plan.delete_files], sorted(it.path for it in used))
+        self.assertEqual(events(filter="false").delete_files, ())
+
+    def test_formats_and_partitions(self):
+        for table, plan in {"events-java": events(), "plain-java": plain()}.items():
+            counts = {}
+            for file in plan:
+                name = " ".join([file.format, "spec", str(file.spec_id), *map(str, file.partition)])
+                count = counts.setdefault(name, [0, 0, 0])
+                deletes = len(file.position_deletes) + len(file.equality_deletes)
+                counts[name] = [a + b for a, b in zip(count, (1, file.record_count, deletes))]
+            lines = [f"{it}: files {a} rows {b} deletes {c}\n" for it, (a, b, c) in counts.items()]
+            with self.subTest(table):
+                self.assertEqual("".join(lines), expected(table, "partitions"))
+
+    def test_partitions_of_delete_files(self):
+        for file in events():
+            for delete in file.position_deletes + file.equality_deletes:
+                if delete.partition:
+                    self.assertEqual((delete.spec_id, delete.partition), (file.spec_id, file.partition))
+
+    def test_file_sequence_numbers(self):
+        files = {it.path[-40:]: it for it in events()}
+        # An entry that names no sequence number for its file inherits its manifest's, as an added one of number 4 does.
+        inherited = files["e56-d3d6-fa74-8ab6d9af3fd7-00001.parquet"]
+        existing = files["b98-ab91-59f5-1fd0297e236d-00001.parquet"]
+        self.assertEqual((inherited.sequence_number, inherited.file_sequence_number), (4, 6))
+        self.assertEqual((existing.sequence_number, existing.file_sequence_number), (2, 2))
+
+    def test_a_relaxed_filter(self):
+        relaxed = events(filter="amount > 5 and id = 42", relax=True)
+        asked = events(filter="id = 42")
+        self.assertEqual(relaxed.unasked, ("amount > 5",))
+        self.assertEqual((relaxed.files, relaxed.delete_files, asked.unasked), (asked.files, asked.delete_files, ()))
+        self.assertEqual(events(filter="id = 42", relax=True), asked)
+        self.assertEqual(events(relax=True), events())
+        tagged = events(ref="eoy", filter="category = 'books' and amount > 5", relax=True)
+        self.assertEqual(tagged.unasked, ("amount > 5",))
 
 
 class Sizes(unittest.TestCase):
@@ -174,6 +221,8 @@ class Refusals(unittest.TestCase):
         error = self.refused(icescan.FilterError, "F2", filter="colour = 'red'")
         self.assertEqual((error.line, str(error), error.status), ("F2 NoSuchColumn", "F2 NoSuchColumn", 2))
         self.refused(icescan.FilterError, "F3", filter="id = 'red'")
+        self.refused(icescan.FilterError, "F4", filter="amount > 5")
+        self.refused(icescan.FilterError, "F2", filter="colour = 'red' or amount > 5", relax=True)
         self.refused(icescan.EncodingError, "", filter="cat = '\ud800'")
 
     def test_of_a_snapshot(self):

@@ -1,7 +1,7 @@
 #!/usr/bin/env python3
 """c_header.py FILE: writes a program in C that compiles only where `c/proved.h` declares what the crate exports.
 
-It is made from the sources of `crates/icescan_c` and `crates/icescan_c_lent`, and declares each exported function once
+It is made from the sources of `crates/icescan_c`, `icescan_c_files` and `icescan_c_lent`, and declares each exported function once
 more, with the types that its parameters have there: a compiler refuses two declarations that differ. Of each struct
 that crosses to C it asserts the size, of each field its type and its place, and of each status of the library's own its
 number. It uses every function that `include/icescan.h` declares, so that the linker refuses one that the library lacks,
@@ -17,7 +17,7 @@ import re
 import sys
 
 TOP = os.path.dirname(os.path.dirname(os.path.dirname(os.path.abspath(__file__))))
-SOURCES = sorted(glob.glob(f"{TOP}/crates/icescan_c/src/*.rt") + glob.glob(f"{TOP}/crates/icescan_c_lent/src/*.rt"))
+SOURCES = sorted(it for name in ("", "_files", "_lent") for it in glob.glob(f"{TOP}/crates/icescan_c{name}/src/*.rt"))
 ENDINGS = f"{TOP}/crates/icescan_c_requests/src/endings.rt"
 HEADER, PROVED = f"{TOP}/include/icescan.h", f"{TOP}/c/proved.h"
 # Where a version stands, as text.
@@ -32,6 +32,7 @@ STRUCTS = {
     "Bytes": "icescan_bytes",
     "Ids": "icescan_ids",
     "File": "icescan_file",
+    "Value": "icescan_value",
 }
 NUMBERS = {"usize": "size_t", "u32": "uint32_t", "u64": "uint64_t", "i32": "int32_t", "i64": "int64_t"}
 POINTERS = {"*const u8": "const uint8_t *", "*const i32": "const int32_t *"}

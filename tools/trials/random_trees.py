@@ -23,8 +23,9 @@ class Scan:
     """A scan that is started, and the bytes of the manifests that it wants."""
 
     def __init__(self, library, read, metadata, text):
-        self.library, self.held = library, _plan.started(library, metadata, read, text, None, None)
-        self.paths = [self.held.path("scan_wanted", i) for i in range(self.held.count("scan_count"))]
+        asked = _plan.Asked(read(metadata), None, None, text)
+        self.library, self.held = library, _plan.started(library, asked, read)
+        self.paths = [self.held.text("scan_wanted", i) for i in range(self.held.count("scan_count"))]
         self.manifests = [read(path) for path in self.paths]
 
     def state(self):
@@ -43,7 +44,7 @@ def finished(state):
             state.call("finish")
         except Error as refused:
             return refused.line
-        return _text.text_of(_plan.Plan(_plan.files_of(state)))
+        return _text.text_of(_plan.plan_of(state, ()))
 
 
 def by_one(scan, wanted):

@@ -1,8 +1,9 @@
 -- What calls do to what handles hold.
 use Rattle.std.specs.Prelude.{◌≡◌, ◌⊎◌, ℕ, List, Option, Some, None, Result, Ok, Err}
 use Rattle.icescan_text.specs.declared.request.Request.{Request}
+use Rattle.icescan_text.specs.declared.fault.RunFault.{RunFault}
 use Rattle.icescan_c.specs.Kept.{Kept}
-use Rattle.icescan_c.specs.Making.{Makes, asked, finished, started}
+use Rattle.icescan_c.specs.Making.{Makes, finished, started}
 use Rattle.icescan_c_requests.specs.Requests.{ReadsTexts}
 use Rattle.icescan_c.specs.States.{TakesOver, TakesRow, untaken}
 use Rattle.icescan_c_requests.specs.Statuses.{status_of}
@@ -28,17 +29,18 @@ ComesToHold made before ended after = Refuses refusal.Memory before ended after
 
 -- ---- scans
 
--- A handle comes to hold what a request selects, or the line of its fault; without memory for it what was held stays. A
--- request that could not be read is refused.
-abbrev pub Asks : List ℕ → Result Request Refusal → Option Held → Result Unit Refusal → Option Held → Type 0
-Asks metadata (Ok request) before ended after = Refuses refusal.Memory before ended after
-    ⊎ ((kept : Held) × (after ≡ Some kept) × Makes (asked metadata request) ended kept)
-Asks metadata (Err refused) before ended after = Refuses refused before ended after
+-- A handle comes to hold what is made of a request, or the line of its fault; without memory for it what was held
+-- stays. A request that could not be read is refused.
+abbrev pub Asks : (Request → Result Held RunFault) → Result Request Refusal → Option Held → Result Unit Refusal
+    → Option Held → Type 0
+Asks made (Ok request) before ended after = Refuses refusal.Memory before ended after
+    ⊎ ((kept : Held) × (after ≡ Some kept) × Makes (made request) ended kept)
+Asks made (Err refused) before ended after = Refuses refused before ended after
 
 -- the same of a request that is read of these texts
-abbrev pub Selects : List ℕ → List (List ℕ) → Request → Option Held → ℕ → Option Held → Type 0
-Selects metadata texts request before status after = (read : Result Request Refusal) × (ended : Result Unit Refusal)
-    × ReadsTexts texts request read × (status ≡ status_of ended) × Asks metadata read before ended after
+abbrev pub Selects : (Request → Result Held RunFault) → List (List ℕ) → Request → Option Held → ℕ → Option Held → Type 0
+Selects made texts request before status after = (read : Result Request Refusal) × (ended : Result Unit Refusal)
+    × ReadsTexts texts request read × (status ≡ status_of ended) × Asks made read before ended after
 
 -- what was selected becomes the scan of a manifest list
 abbrev pub Starts : List ℕ → Held → Result Unit Refusal → Held → Type 0

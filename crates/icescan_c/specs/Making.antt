@@ -2,6 +2,7 @@
 use Rattle.std.specs.Prelude.{◌≡◌, ◌⊎◌, ℕ, List, [], Result, Ok, Err}
 use Rattle.contract_words.specs.Outcome.{Gives, ◌>>=◌}
 use Rattle.ice_manifest_reading.specs.Lists.{rows_of}
+use Rattle.icescan_relaxed.specs.Requests.{relaxed_request}
 use Rattle.icescan_requests.specs.Selections.{selected}
 use Rattle.ice_state.specs.Outcomes.{outcome}
 use Rattle.ice_state.specs.Scans.{scan_of}
@@ -28,6 +29,12 @@ unfoldable pub asked : List ℕ → Request → Result Held RunFault
 asked metadata request = do
   answer ← answered metadata request
   Ok (held.Selection answer)
+
+-- the request whose filter is relaxed, of that table
+unfoldable pub relaxing : List ℕ → Request → Result Held RunFault
+relaxing metadata request = do
+  made ← relaxed_request metadata request
+  Ok (held.Relaxed made)
 
 -- the scan of what was selected, whose manifest list these are the bytes of
 unfoldable pub scanned : Answered → List ℕ → Result AskedScan RunFault

@@ -1,16 +1,20 @@
 -- What calls read of what a handle holds.
-use Rattle.std.specs.Prelude.{◌≡◌, ℕ, ℤ, List, length, slice_get, Option, Some, None, Result, Ok, Err}
+use Rattle.std.specs.Prelude.{◌≡◌, ℕ, List, [], length, slice_get, Option, Some, None, Result, Ok, Err, unwrap_or}
 use Rattle.ice_manifest_reading.specs.declared.entry.Entry.{Entry}
 use Rattle.ice_manifest_reading.specs.declared.row.Row.{Row}
 use Rattle.ice_state.specs.Lines.{OwnedLine}
+use Rattle.ice_state.specs.PlacedFiles.{PlanPlaces, plan_of}
+use Rattle.ice_value.specs.declared.cell.Cell.{Cell}
+use Rattle.icescan_relaxed.specs.declared.requests.RelaxedRequest.{RelaxedRequest}
 use Rattle.icescan_c_requests.specs.Statuses.{status_of}
 use Rattle.icescan_c.specs.declared.held.Held.{Held}
 use Rattle.icescan_c.specs.declared.held.Held.TheVariants as held
-use Rattle.icescan_c_lent.specs.declared.lent.Bytes.{Bytes}
-use Rattle.icescan_c_lent.specs.declared.lent.Ids.{Ids}
+use Rattle.icescan_c_files.specs.Files.{IsFileOf}
+use Rattle.icescan_c_files.specs.Values.{IsValueOf}
+use Rattle.icescan_c_files.specs.declared.file.File.{File}
+use Rattle.icescan_c_files.specs.declared.value.Value.{Value}
 use Rattle.icescan_c_requests.specs.declared.endings.Refusal.{Refusal}
 use Rattle.icescan_c_requests.specs.declared.endings.Refusal.TheVariants as refusal
-use Rattle.icescan_c.specs.declared.telling.File.{File}
 
 -- ---- what is found
 
@@ -30,6 +34,20 @@ wanted_in other = Err refusal.Kind
 abbrev pub lines_in : Held → Result (List OwnedLine) Refusal
 lines_in (held.Plan plan) = Ok plan
 lines_in other = Err refusal.Kind
+
+-- what a relaxed filter is made of
+abbrev pub relaxed_in : Held → Result RelaxedRequest Refusal
+relaxed_in (held.Relaxed made) = Ok made
+relaxed_in other = Err refusal.Kind
+
+-- the text of the relaxed filter, which has no bytes where no filter was asked; and the predicates that it does not ask
+abbrev pub filter_of : Result RelaxedRequest Refusal → Result (List ℕ) Refusal
+filter_of (Ok made) = Ok (unwrap_or made.request.filter [])
+filter_of (Err refused) = Err refused
+
+abbrev pub unasked_of : Result RelaxedRequest Refusal → Result (List (List ℕ)) Refusal
+unasked_of (Ok made) = Ok made.unasked
+unasked_of (Err refused) = Err refused
 
 -- how many there are, and the one at a place
 abbrev pub count_of : {X : Type 0} → Result (List X) Refusal → Result ℕ Refusal
@@ -56,36 +74,33 @@ abbrev pub equalities_of : Result OwnedLine Refusal → Result (List Entry) Refu
 equalities_of (Ok line) = Ok line.equalities
 equalities_of (Err refused) = Err refused
 
+-- the partition values of a data file
+abbrev pub tuple_of : Result OwnedLine Refusal → Result (List Cell) Refusal
+tuple_of (Ok line) = Ok line.file.file.tuple
+tuple_of (Err refused) = Err refused
+
+-- the partition values of a delete file
+abbrev pub tuple_in : Result Entry Refusal → Result (List Cell) Refusal
+tuple_in (Ok entry) = Ok entry.file.tuple
+tuple_in (Err refused) = Err refused
+
 -- ---- what is told of it
 
 -- that number
 abbrev pub IsCount : ℕ → ℕ → Type 0
 IsCount told counted = told ≡ counted
 
--- these bytes lie where the pointer points, and are as many as is told
-abbrev pub AreLent : Bytes → List ℕ → Type 0
-AreLent lent bytes = (lent.bytes ≡ Some bytes) × (lent.len ≡ length bytes)
+-- the data file at a place, to which so many delete files apply
+abbrev pub IsFileOfLine : ℕ → File → OwnedLine → Type 0
+IsFileOfLine i file line = IsFileOf line.file i (length line.positions) (length line.equalities) file
 
--- the same of ids
-abbrev pub AreIdsLent : Ids → List ℤ → Type 0
-AreIdsLent lent ids = (lent.ids ≡ Some ids) × (lent.len ≡ length ids)
-
--- the path, the ids and the numbers of a file
-pub record IsFileOf (entry : Entry) (positions equalities : ℕ) (file : File) : Type 0 where
-  pub path : AreLent file.path entry.file.path
-  pub ids : AreIdsLent file.equality_ids entry.file.equality_ids
-  pub sequence : file.sequence_number ≡ entry.sequence_number
-  pub rows : file.record_count ≡ entry.file.record_count
-  pub size : file.file_size ≡ entry.file.file_size
-  pub spec : file.spec_id ≡ entry.spec_id
-  pub position_deletes : file.positions ≡ positions
-  pub equality_deletes : file.equalities ≡ equalities
-
+-- a delete file, by some number
 abbrev pub IsDeleteOf : File → Entry → Type 0
-IsDeleteOf file entry = IsFileOf entry 0 0 file
+IsDeleteOf file entry = (number : ℕ) × IsFileOf entry number 0 0 file
 
-abbrev pub IsFileOfLine : File → OwnedLine → Type 0
-IsFileOfLine file line = IsFileOf line.file (length line.positions) (length line.equalities) file
+-- a partition value
+abbrev pub IsCell : Value → Cell → Type 0
+IsCell value cell = IsValueOf cell value
 
 -- what a call tells that reads what was found: it, or the refusal, and then what it was to write stays as it was
 abbrev pub Tells : {X Y : Type 0} → (Y → X → Type 0) → Result X Refusal → Y → ℕ → Y → Type 0
@@ -96,3 +111,30 @@ Tells tells (Err refused) before status after = (status ≡ status_of (Err refus
 abbrev pub Reads : {X Y : Type 0} → (Y → X → Type 0) → (Held → Result X Refusal) → Option Held → Y → ℕ → Y → Type 0
 Reads tells found None before status after = (status ≡ status_of (Err refusal.Kind)) × (after ≡ before)
 Reads tells found (Some held) before status after = Tells tells (found held) before status after
+
+-- ---- the delete files of a plan, each once
+
+-- how many there are
+abbrev pub TellsCountOfDeletes : List Entry → ℕ → ℕ → ℕ → Type 0
+TellsCountOfDeletes deletes before status after = Tells IsCount (Ok (length deletes)) before status after
+
+-- the one of a number
+abbrev pub TellsDelete : ℕ → List Entry → File → ℕ → File → Type 0
+TellsDelete n deletes before status after =
+    Tells (λ file entry. IsFileOf entry n 0 0 file) (or_past (slice_get deletes n)) before status after
+
+-- a partition value of it
+abbrev pub TellsDeleteValue : ℕ → ℕ → List Entry → Value → ℕ → Value → Type 0
+TellsDeleteValue n k deletes before status after =
+    Tells IsCell (at_place (tuple_in (or_past (slice_get deletes n))) k) before status after
+
+-- That is told of the delete files by which a plan has its lines: those that apply to a data file, and perhaps others.
+-- What holds no plan is refused.
+abbrev pub OfPlaced : {Y : Type 0} → (List Entry → Y → ℕ → Y → Type 0) → Held → Y → ℕ → Y → Type 0
+OfPlaced tells (held.Plan lines) before status after =
+    (placed : PlanPlaces) × (plan_of placed ≡ lines) × tells placed.deletes before status after
+OfPlaced tells other before status after = (status ≡ status_of (Err refusal.Kind)) × (after ≡ before)
+
+abbrev pub ReadsPlaced : {Y : Type 0} → (List Entry → Y → ℕ → Y → Type 0) → Option Held → Y → ℕ → Y → Type 0
+ReadsPlaced tells None before status after = (status ≡ status_of (Err refusal.Kind)) × (after ≡ before)
+ReadsPlaced tells (Some held) before status after = OfPlaced tells held before status after

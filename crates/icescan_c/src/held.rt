@@ -4,6 +4,7 @@ use crate::questions::{Answer, SharedScan};
 use crate::states::State;
 use contract_words::Items;
 use ice_state::OwnedPlan;
+use icescan_relaxed::RelaxedRequest;
 
 /// What a handle holds.
 #[derive(Drop)]
@@ -12,6 +13,8 @@ pub enum Held {
     Nothing,
     /// What a request selects of a table, whose manifest list is still to be read.
     Selection(Answer),
+    /// A request whose filter is relaxed.
+    Relaxed(RelaxedRequest),
     /// A scan.
     Scan(SharedScan),
     /// A state of a scan.

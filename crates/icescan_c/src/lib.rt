@@ -7,6 +7,7 @@ mod held;
 mod loose;
 mod plan_calls;
 mod questions;
+mod relax_calls;
 mod scan_calls;
 mod state_calls;
 mod states;

@@ -2,8 +2,9 @@
 
 ghost use Rattle.std.specs.Prelude.{◌≡◌, [], ◌∷◌, None};
 ghost use Rattle.icescan_c.specs.Calls.{Asks, OnHandle, Selects, Starts};
-ghost use Rattle.icescan_c.specs.Readings.{AreLent, IsCount, Reads, at_place, count_of, fault_in, list_in};
-ghost use Rattle.icescan_c.specs.Readings.{path_of, wanted_in};
+ghost use Rattle.icescan_c.specs.Making.{asked};
+ghost use Rattle.icescan_c.specs.Readings.{IsCount, Reads, at_place, count_of, fault_in, list_in, path_of, wanted_in};
+ghost use Rattle.icescan_c_files.specs.Lent.{AreLent};
 ghost use Rattle.icescan_c_requests.specs.Requests.{by_id, by_name};
 
 use crate::handle::Handle;
@@ -21,7 +22,7 @@ fn ask(
     metadata: &[u8],
     request: Result<Request, Refusal>,
 ) -> Result<(), Refusal>
-    ensures { Asks metadata.now request scan.old.held result scan.new.held }
+    ensures { Asks (asked metadata.now) request scan.old.held result scan.new.held }
 {
     let request = request?;
     let mut held = Held::Nothing;
@@ -40,8 +41,8 @@ pub extern "C" fn icescan_scan_new(
     name: &[u8],
     filter: &[u8],
 ) -> u32
-    ensures { Selects metadata.now (name.now ∷ filter.now ∷ []) (by_name name.now filter.now) scan.old.held result
-        scan.new.held }
+    ensures { Selects (asked metadata.now) (name.now ∷ filter.now ∷ []) (by_name name.now filter.now) scan.old.held
+        result scan.new.held }
 {
     status(ask(alloc, scan, metadata, request_by_name(alloc, name, filter)))
 }
@@ -55,7 +56,8 @@ pub extern "C" fn icescan_scan_new_at(
     snapshot: i64,
     filter: &[u8],
 ) -> u32
-    ensures { Selects metadata.now (filter.now ∷ []) (by_id snapshot filter.now) scan.old.held result scan.new.held }
+    ensures { Selects (asked metadata.now) (filter.now ∷ []) (by_id snapshot filter.now) scan.old.held result
+        scan.new.held }
 {
     status(ask(
         alloc,

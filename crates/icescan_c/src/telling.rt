@@ -1,56 +1,21 @@
 //! Telling what a handle holds.
 
 ghost use Rattle.std.specs.Prelude.{◌≡◌, Err, IfErr, IfOk, Ok, slice_get};
-ghost use Rattle.icescan_c.specs.Readings.{AreLent, IsCount, IsDeleteOf, IsFileOf, IsFileOfLine, Tells};
-ghost use Rattle.icescan_c.specs.Readings.{at_place, count_of, equalities_of, fault_in, lines_in, list_in, or_past};
-ghost use Rattle.icescan_c.specs.Readings.{path_of, positions_of, wanted_in};
+ghost use Rattle.icescan_c.specs.Readings.{IsCell, IsCount, IsDeleteOf, IsFileOfLine, OfPlaced, Tells};
+ghost use Rattle.icescan_c.specs.Readings.{TellsCountOfDeletes, TellsDelete, TellsDeleteValue, at_place, count_of};
+ghost use Rattle.icescan_c.specs.Readings.{equalities_of, fault_in, filter_of, lines_in, list_in, or_past, path_of};
+ghost use Rattle.icescan_c.specs.Readings.{positions_of, relaxed_in, tuple_of, unasked_of, wanted_in};
+ghost use Rattle.icescan_c_files.specs.Lent.{AreLent};
 ghost use Rattle.icescan_c_requests.specs.Statuses.{status_of};
 
 use crate::held::Held;
 use crate::questions::SharedScan;
-use ice_state::{OwnedPlan, PlanFile, PlanFiles};
-use icescan_c_lent::{Bytes, Ids};
+use ice_state::{OwnedPlan, PlacedFiles, PlanFiles};
+use ice_value::Cell;
+use icescan_c_files::{File, Value};
+use icescan_c_lent::Bytes;
 use icescan_c_requests::Refusal;
-
-/// A data file or a delete file of a plan.
-#[repr(C)]
-#[derive(Drop)]
-pub struct File {
-    /// Its path.
-    pub path: Bytes,
-    /// The columns by which an equality delete file deletes.
-    pub equality_ids: Ids,
-    /// Its sequence number.
-    pub sequence_number: u64,
-    /// How many rows it has, as its manifest says; any number.
-    pub record_count: i64,
-    /// How many bytes it has, as its manifest says; any number.
-    pub file_size: i64,
-    /// How many position delete files apply to it.
-    pub positions: usize,
-    /// How many equality delete files apply to it.
-    pub equalities: usize,
-    /// The id of its partition spec.
-    pub spec_id: i32,
-}
-
-impl File {
-    /// What is lent of a file, to which so many delete files apply.
-    fn of(file: &PlanFile<'_>, positions: usize, equalities: usize) -> File
-        ensures { IsFileOf file.now positions equalities result }
-    {
-        File {
-            path: Bytes::of(file.path()),
-            equality_ids: Ids::of(file.equality_ids()),
-            sequence_number: file.sequence_number().get(),
-            record_count: file.record_count(),
-            file_size: file.file_size(),
-            positions,
-            equalities,
-            spec_id: file.spec_id(),
-        }
-    }
-}
+use icescan_relaxed::RelaxedRequest;
 
 impl Held {
     /// The scan that it holds.
@@ -85,6 +50,49 @@ impl Held {
                 Ok(())
             }
             _ => Err(Refusal::Kind),
+        }
+    }
+
+    /// The relaxed request that it holds.
+    fn relaxed(&self) -> Result<&RelaxedRequest, Refusal>
+        ensures made { IfOk result (λ made. relaxed_in self.now ≡ Ok made.now) }
+        ensures none { IfErr result (λ refused. relaxed_in self.now ≡ Err refused) }
+    {
+        match self {
+            Held::Relaxed(made) => Ok(made),
+            _ => Err(Refusal::Kind),
+        }
+    }
+
+    /// Lends the text of a relaxed filter.
+    pub fn lend_filter(&self, text: &mut Bytes) -> Result<(), Refusal>
+        ensures { Tells AreLent (filter_of (relaxed_in self.now)) text.old (status_of result) text.new }
+    {
+        match &self.relaxed()?.request.filter {
+            Some(filter) => *text = Bytes::of(filter.as_bytes()),
+            None => *text = Bytes::of(b""),
+        }
+        Ok(())
+    }
+
+    /// Tells how many predicates a relaxed filter does not ask.
+    pub fn count_unasked(&self, count: &mut usize) -> Result<(), Refusal>
+        ensures { Tells IsCount (count_of (unasked_of (relaxed_in self.now))) count.old (status_of result) count.new }
+    {
+        *count = self.relaxed()?.unasked.as_slice().len();
+        Ok(())
+    }
+
+    /// Lends the text of a predicate that a relaxed filter does not ask.
+    pub fn lend_unasked(&self, i: usize, text: &mut Bytes) -> Result<(), Refusal>
+        ensures { Tells AreLent (at_place (unasked_of (relaxed_in self.now)) i) text.old (status_of result) text.new }
+    {
+        match self.relaxed()?.unasked.as_slice().get(i) {
+            Some(predicate) => {
+                *text = Bytes::of(predicate.as_bytes());
+                Ok(())
+            }
+            None => Err(Refusal::PastEnd),
         }
     }
 
@@ -133,7 +141,7 @@ impl Held {
 
     /// Lends a data file of a plan.
     pub fn lend_file(&self, i: usize, file: &mut File) -> Result<(), Refusal>
-        ensures { Tells IsFileOfLine (at_place (lines_in self.now) i) file.old (status_of result) file.new }
+        ensures { Tells (IsFileOfLine i) (at_place (lines_in self.now) i) file.old (status_of result) file.new }
     {
         let lines = self.plan()?.lines();
         if lines.len() <= i {
@@ -142,7 +150,7 @@ impl Held {
         let line = lines.line(i);
         let positions = line.positions().len();
         let equalities = line.equalities().len();
-        *file = File::of(&line.file(), positions, equalities);
+        *file = File::of(&line.file(), i, positions, equalities);
         Ok(())
     }
 
@@ -155,7 +163,8 @@ impl Held {
         if lines.len() <= i {
             return Err(Refusal::PastEnd);
         }
-        lend_delete(&lines.line(i).positions(), j, file)
+        let number = position_number(&lines.placed_files(), i, j);
+        lend_delete(&lines.line(i).positions(), j, number, file)
     }
 
     /// Lends an equality delete file of a data file of a plan.
@@ -167,17 +176,103 @@ impl Held {
         if lines.len() <= i {
             return Err(Refusal::PastEnd);
         }
-        lend_delete(&lines.line(i).equalities(), j, file)
+        let number = equality_number(&lines.placed_files(), i, j);
+        lend_delete(&lines.line(i).equalities(), j, number, file)
+    }
+
+    /// Lends a partition value of a data file of a plan.
+    pub fn lend_value(&self, i: usize, k: usize, value: &mut Value) -> Result<(), Refusal>
+        ensures { Tells IsCell (at_place (tuple_of (at_place (lines_in self.now) i)) k) value.old
+            (status_of result) value.new }
+    {
+        let lines = self.plan()?.lines();
+        if lines.len() <= i {
+            return Err(Refusal::PastEnd);
+        }
+        lend_cell(lines.line(i).file().tuple(), k, value)
+    }
+
+    /// Tells how many delete files a plan has.
+    pub fn count_deletes(&self, count: &mut usize) -> Result<(), Refusal>
+        ensures { OfPlaced TellsCountOfDeletes self.now count.old (status_of result) count.new }
+    {
+        *count = self.plan()?.lines().placed_files().count_deletes();
+        Ok(())
+    }
+
+    /// Lends a delete file of a plan.
+    pub fn lend_placed(&self, n: usize, file: &mut File) -> Result<(), Refusal>
+        ensures { OfPlaced (TellsDelete n) self.now file.old (status_of result) file.new }
+    {
+        let placed = self.plan()?.lines().placed_files();
+        if placed.count_deletes() <= n {
+            return Err(Refusal::PastEnd);
+        }
+        *file = File::of(&placed.delete(n), n, 0, 0);
+        Ok(())
+    }
+
+    /// Lends a partition value of a delete file of a plan.
+    pub fn lend_placed_value(&self, n: usize, k: usize, value: &mut Value) -> Result<(), Refusal>
+        ensures { OfPlaced (TellsDeleteValue n k) self.now value.old (status_of result) value.new }
+    {
+        let placed = self.plan()?.lines().placed_files();
+        if placed.count_deletes() <= n {
+            return Err(Refusal::PastEnd);
+        }
+        lend_cell(placed.delete(n).tuple(), k, value)
     }
 }
 
+/// The number at a place; 0 where there is none.
+fn number_at(numbers: &[u32], j: usize) -> usize {
+    match numbers.get(j) {
+        Some(number) => *number as usize,
+        None => 0,
+    }
+}
+
+/// The number of a position delete file of a data file: its place among the delete files of the plan.
+fn position_number(placed: &PlacedFiles<'_>, i: usize, j: usize) -> usize {
+    if placed.count_files() <= i {
+        return 0;
+    }
+    number_at(placed.positions(i), j)
+}
+
+/// The same of an equality delete file.
+fn equality_number(placed: &PlacedFiles<'_>, i: usize, j: usize) -> usize {
+    if placed.count_files() <= i {
+        return 0;
+    }
+    number_at(placed.equalities(i), j)
+}
+
 /// Lends a delete file of a data file of a plan.
-fn lend_delete(files: &PlanFiles<'_>, j: usize, file: &mut File) -> Result<(), Refusal>
+fn lend_delete(
+    files: &PlanFiles<'_>,
+    j: usize,
+    number: usize,
+    file: &mut File,
+) -> Result<(), Refusal>
     ensures { Tells IsDeleteOf (or_past (slice_get files.now j)) file.old (status_of result) file.new }
 {
     if files.len() <= j {
         return Err(Refusal::PastEnd);
     }
-    *file = File::of(&files.file(j), 0, 0);
+    *file = File::of(&files.file(j), number, 0, 0);
     Ok(())
+}
+
+/// Lends one of some partition values.
+fn lend_cell(cells: &[Cell], k: usize, value: &mut Value) -> Result<(), Refusal>
+    ensures { Tells IsCell (or_past (slice_get cells.now k)) value.old (status_of result) value.new }
+{
+    match cells.get(k) {
+        Some(cell) => {
+            *value = Value::of(cell);
+            Ok(())
+        }
+        None => Err(Refusal::PastEnd),
+    }
 }

@@ -3,13 +3,14 @@
 ghost use Rattle.std.specs.Prelude.{◌≡◌};
 ghost use Rattle.contract_words.specs.Outcome.{Gives};
 ghost use Rattle.icescan_c.specs.Calls.{Finishes, Merges, Starts, Takes};
-ghost use Rattle.icescan_c.specs.Making.{Holds, Makes, asked, finished, started};
+ghost use Rattle.icescan_c.specs.Making.{Holds, Makes, asked, finished, relaxing, started};
 
 use crate::held::Held;
 use crate::questions::{Answer, SharedScan};
 use crate::states::State;
 use contract_words::Items;
 use icescan_c_requests::{Refusal, fault_line};
+use icescan_relaxed::relax_request;
 use icescan_text::{Request, RunFault};
 use std::alloc::Global;
 use std::mem::replace;
@@ -20,6 +21,14 @@ fn asked(alloc: Global, metadata: &[u8], request: Request) -> Result<Held, RunFa
     ensures { Gives RunFault.Memory (λ held. held) result (asked metadata.now request) }
 {
     Ok(Held::Selection(Answer::read(alloc, metadata, request)?))
+}
+
+/// The request whose filter is relaxed, of the table whose metadata these are the bytes of.
+#[tactic(auto, unfolding(crate::specs::Making::relaxing))]
+fn relaxed(alloc: Global, metadata: &[u8], request: &Request) -> Result<Held, RunFault>
+    ensures { Gives RunFault.Memory (λ held. held) result (relaxing metadata.now request.now) }
+{
+    Ok(Held::Relaxed(relax_request(alloc, metadata, request)?))
 }
 
 /// The scan of what was selected, whose manifest list these are the bytes of.
@@ -72,6 +81,15 @@ impl Held {
         ensures { Makes (asked metadata.now request) result self.new }
     {
         self.hold(alloc, asked(alloc, metadata, request))
+    }
+
+    /// Holds the request whose filter is relaxed, or the line of the fault.
+    pub fn relax(&mut self, alloc: Global, metadata: &[u8], request: Request) -> Result<(), Refusal>
+        ensures { Makes (relaxing metadata.now request) result self.new }
+    {
+        let made = relaxed(alloc, metadata, &request);
+        drop(request);
+        self.hold(alloc, made)
     }
 
     /// Holds the scan of what was selected, or the line of the fault. `Kind` where it held no selection.

@@ -1,0 +1,8 @@
+//! What is lent to C of a plan's files: their numbers, their paths, and their partition values.
+#![tactic(auto)]
+
+mod file;
+mod value;
+
+pub use file::File;
+pub use value::Value;
