@@ -1,0 +1,3 @@
+pub mod Snapshots
+pub mod Lines
+pub mod Texts
