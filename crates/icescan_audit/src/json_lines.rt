@@ -54,11 +54,7 @@ fn file_value(file: &Option<Shared<Items<u8>>>) -> Value<'_>
 
 /// Sends a finding.
 #[tactic(auto, unfolding(crate::specs::JsonLines::finding_object))]
-pub fn put_finding<S: Sink>(
-    page: &mut Page,
-    sink: &mut S,
-    finding: &Finding,
-) -> Result<(), SinkFault>
+fn put_finding<S: Sink>(page: &mut Page, sink: &mut S, finding: &Finding) -> Result<(), SinkFault>
     ensures { Sent S.taken S.may_fail sink.old page.old result sink.new page.new (finding_object finding.now) }
 {
     let members = [
@@ -90,7 +86,7 @@ fn put_findings<S: Sink>(
 
 /// Sends a false total.
 #[tactic(auto, unfolding(crate::specs::JsonLines::total_object))]
-pub fn put_false_total<S: Sink>(
+fn put_false_total<S: Sink>(
     page: &mut Page,
     sink: &mut S,
     total: &FalseTotal,

@@ -1,5 +1,0 @@
-pub mod Asked
-pub mod Bases
-pub mod MoreGiven
-pub mod SameRows
-pub mod Stops
