@@ -10,10 +10,9 @@ ghost use Rattle.icescan_changes.specs.JsonPieces.{kind_front};
 ghost use Rattle.icescan_forms.specs.Objects.{object_line};
 
 use crate::changes::{Change, FileChange, Kind, line_changes};
-use crate::json_text::JsonText;
 use crate::lines::{count_kind, push_ids};
 use ice_state::{Line, Lines, PlanFile, PlanFiles};
-use icescan_forms::Value;
+use icescan_forms::{ObjectLines, Value};
 use std::alloc::{AllocError, Global};
 
 /// The kinds of delete files.
@@ -26,7 +25,7 @@ pub enum DeleteKind {
 // ---- data files
 
 /// Puts the members of a data file last that are numbers, and the end of its line.
-fn put_data_numbers(lines: &mut JsonText, file: &PlanFile<'_>) -> Result<(), AllocError>
+fn put_data_numbers(lines: &mut ObjectLines, file: &PlanFile<'_>) -> Result<(), AllocError>
     ensures { OnOk result (lines.new ≡ lines.old ++ data_numbers file.now) }
 {
     lines.put_number(b",\"seq\":", file.sequence_number().get())?;
@@ -46,7 +45,7 @@ fn data_head() -> &'static [u8]
 
 /// Puts the front of the line of a data file last, of which this became.
 fn put_data_front(
-    lines: &mut JsonText,
+    lines: &mut ObjectLines,
     became: &[u8],
     file: &PlanFile<'_>,
 ) -> Result<(), AllocError>
@@ -59,7 +58,7 @@ fn put_data_front(
 }
 
 /// Puts a data file last, of which this became.
-fn push_data(lines: &mut JsonText, became: &[u8], file: &PlanFile<'_>) -> Result<(), AllocError>
+fn push_data(lines: &mut ObjectLines, became: &[u8], file: &PlanFile<'_>) -> Result<(), AllocError>
     ensures { OnOk result (lines.new ≡ lines.old ++ data_object became.now file.now) }
 {
     put_data_front(lines, became, file)?;
@@ -80,7 +79,7 @@ fn kind_front(kind: DeleteKind) -> &'static [u8]
 
 /// Puts the columns last by which a delete file of a kind deletes.
 fn put_ids(
-    lines: &mut JsonText,
+    lines: &mut ObjectLines,
     alloc: Global,
     kind: DeleteKind,
     ids: &[i32],
@@ -102,7 +101,7 @@ fn put_ids(
 
 /// Puts the members of a delete file of a kind last that say what is known of it, of which this became.
 fn put_delete_file(
-    lines: &mut JsonText,
+    lines: &mut ObjectLines,
     kind: DeleteKind,
     became: &[u8],
     file: &PlanFile<'_>,
@@ -118,7 +117,7 @@ fn put_delete_file(
 
 /// Puts the columns of a delete file of a kind last, and the data file that it is told of.
 fn put_delete_rest(
-    lines: &mut JsonText,
+    lines: &mut ObjectLines,
     alloc: Global,
     kind: DeleteKind,
     owner: &[u8],
@@ -135,7 +134,7 @@ fn put_delete_rest(
 
 /// Puts a delete file of a kind last, of which this became for a data file.
 fn push_delete(
-    lines: &mut JsonText,
+    lines: &mut ObjectLines,
     alloc: Global,
     kind: DeleteKind,
     became: &[u8],
@@ -150,7 +149,7 @@ fn push_delete(
 
 /// Puts the delete files of a kind last that apply to a data file now.
 fn push_deletes(
-    lines: &mut JsonText,
+    lines: &mut ObjectLines,
     alloc: Global,
     kind: DeleteKind,
     became: &[u8],
@@ -167,7 +166,7 @@ fn push_deletes(
 
 /// Puts last what became of a delete file of a kind for a data file.
 fn push_delete_change(
-    lines: &mut JsonText,
+    lines: &mut ObjectLines,
     alloc: Global,
     kind: DeleteKind,
     owner: &[u8],
@@ -183,7 +182,7 @@ fn push_delete_change(
 
 /// Puts last what became of the delete files of a kind for a data file.
 fn push_delete_changes(
-    lines: &mut JsonText,
+    lines: &mut ObjectLines,
     alloc: Global,
     kind: DeleteKind,
     owner: &[u8],
@@ -200,7 +199,7 @@ fn push_delete_changes(
 // ---- changes
 
 /// Puts a data file last that only the later plan has.
-fn push_added(lines: &mut JsonText, alloc: Global, line: &Line<'_>) -> Result<(), AllocError>
+fn push_added(lines: &mut ObjectLines, alloc: Global, line: &Line<'_>) -> Result<(), AllocError>
     ensures { OnOk result (lines.new ≡ lines.old ++ change_objects (Change.Added line.now)) }
 {
     let file = line.file();
@@ -225,7 +224,7 @@ fn push_added(lines: &mut JsonText, alloc: Global, line: &Line<'_>) -> Result<()
 
 /// Puts a data file last to which other delete files apply.
 fn push_altered(
-    lines: &mut JsonText,
+    lines: &mut ObjectLines,
     alloc: Global,
     line: &Line<'_>,
     positions: &[FileChange<'_>],
@@ -241,7 +240,11 @@ fn push_altered(
 }
 
 /// Puts last what became of a data file.
-fn push_change(lines: &mut JsonText, alloc: Global, change: &Change<'_>) -> Result<(), AllocError>
+fn push_change(
+    lines: &mut ObjectLines,
+    alloc: Global,
+    change: &Change<'_>,
+) -> Result<(), AllocError>
     ensures { OnOk result (lines.new ≡ lines.old ++ change_objects change.now) }
 {
     match change {
@@ -261,7 +264,7 @@ fn push_change(lines: &mut JsonText, alloc: Global, change: &Change<'_>) -> Resu
 
 /// Puts changes last.
 fn push_changes(
-    lines: &mut JsonText,
+    lines: &mut ObjectLines,
     alloc: Global,
     changes: &[Change<'_>],
 ) -> Result<(), AllocError>
@@ -275,14 +278,14 @@ fn push_changes(
 
 /// Puts these numbers of data files last.
 fn push_counts(
-    lines: &mut JsonText,
+    lines: &mut ObjectLines,
     added: usize,
     removed: usize,
     altered: usize,
 ) -> Result<(), AllocError>
     ensures { OnOk result (lines.new ≡ lines.old ++ object_line (totals_members added removed altered)) }
 {
-    lines.put_object(&[
+    lines.push(&[
         ("kind", Value::Text(b"totals")),
         ("added", Value::Count(added as u128)),
         ("removed", Value::Count(removed as u128)),
@@ -292,7 +295,7 @@ fn push_counts(
 
 /// Puts last how many data files were added, removed and altered.
 #[tactic(auto, unfolding(crate::specs::JsonLines::totals_object))]
-fn push_totals(lines: &mut JsonText, changes: &[Change<'_>]) -> Result<(), AllocError>
+fn push_totals(lines: &mut ObjectLines, changes: &[Change<'_>]) -> Result<(), AllocError>
     ensures { OnOk result (lines.new ≡ lines.old ++ totals_object changes.now) }
 {
     push_counts(
@@ -315,7 +318,7 @@ pub fn changes_objects<'a>(
     ensures { IfOk result (λ text. text.items ≡ changes_objects earlier.now later.now) }
 {
     let changes = line_changes(alloc, earlier, later)?;
-    let mut lines = JsonText::new(alloc)?;
+    let mut lines = ObjectLines::new(alloc)?;
     push_changes(&mut lines, alloc, &changes)?;
     push_totals(&mut lines, &changes)?;
     lines.into_text()

@@ -4,7 +4,6 @@
 
 mod changes;
 mod json_lines;
-mod json_text;
 pub mod laws;
 mod lineage;
 mod lines;
