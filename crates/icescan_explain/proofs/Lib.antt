@@ -6,6 +6,7 @@ pub mod Scanned
 pub mod Wanted
 pub mod Ends
 pub mod Times
+pub mod Places
 pub mod Counted
 pub mod Kept
 pub mod AnyKept

@@ -58,46 +58,18 @@ updates bs m n w h cs = go (bytes_eq bs cs) refl where
       (other_entries _ _ _ _ h.3 _ (λ x y. (eq_by_cmp_equiv nat_list_cmp_total).congr cs x.items y.items)
       (λ k. apart bs cs k.items e))
 
-pub once_more : (bs : List ℕ) (a b : Applied)
-    → tree.UpdatesBy order (λ k. slice_cmp nat_cmp bs k.items) a.counts b.counts (Some (times_in a bs + 1))
-    → (cs : List ℕ) → times_in b cs ≡ times_in a cs + cond (bytes_eq cs bs) 1 0
-once_more bs a b h cs = go (bytes_eq cs bs) refl where
-  has : at_bytes b.counts cs ≡ cond (bytes_eq cs bs) (Some (times_in a bs + 1)) (at_bytes a.counts cs)
-  has = updates bs a.counts b.counts (Some (times_in a bs + 1)) h cs
+pub more : (bs : List ℕ) (n : ℕ) (a b : Applied)
+    → tree.UpdatesBy order (λ k. slice_cmp nat_cmp bs k.items) a.counts b.counts (Some (times_in a bs + n))
+    → (cs : List ℕ) → times_in b cs ≡ times_in a cs + cond (bytes_eq cs bs) n 0
+more bs n a b h cs = go (bytes_eq cs bs) refl where
+  has : at_bytes b.counts cs ≡ cond (bytes_eq cs bs) (Some (times_in a bs + n)) (at_bytes a.counts cs)
+  has = updates bs a.counts b.counts (Some (times_in a bs + n)) h cs
 
-  go : (t : Bool) → bytes_eq cs bs ≡ t → times_in b cs ≡ times_in a cs + cond t 1 0
+  go : (t : Bool) → bytes_eq cs bs ≡ t → times_in b cs ≡ times_in a cs + cond t n 0
   go true e =
       let same : cs ≡ bs = (bytes_eq-Decides cs bs).0 e in
-      let there : at_bytes b.counts cs ≡ Some (times_in a bs + 1) = rw e at has in
-      ap (λ o. unwrap_or o 0) there ∙ ap (λ q. times_in a q + 1) (sym same)
+      let there : at_bytes b.counts cs ≡ Some (times_in a bs + n) = rw e at has in
+      ap (λ o. unwrap_or o 0) there ∙ ap (λ q. times_in a q + n) (sym same)
   go false e =
       let there : at_bytes b.counts cs ≡ at_bytes a.counts cs = rw e at has in
       ap (λ o. unwrap_or o 0) there ∙ omega arith
-
--- ---- one more file, and one more line
-
-taken : {A : Type 0} (xs : List A) (i : ℕ) (x : A) → slice_get xs i ≡ Some x → take (i + 1) xs ≡ take i xs ++ x ∷ []
-taken xs i x is = ap (λ n. take n xs) (add-one i) ∙ take-suc xs i x (slice_get_within xs i x is)
-    ∙ ap (λ y. take i xs ++ y ∷ []) (get_or_from_slice_get xs i x x is)
-
-one : (b : Bool) (d : Entry) → length (cond b (d ∷ []) []) ≡ cond b 1 0
-one true d = refl
-one false d = refl
-
-pub named_more : (q : List ℕ) (ds : List Entry) (i : ℕ) (d : Entry) → slice_get ds i ≡ Some d
-    → named q (take (i + 1) ds) ≡ named q (take i ds) + cond (bytes_eq q d.file.path) 1 0
-named_more q ds i d is =
-    let test : Entry → Bool = λ (x : Entry). bytes_eq q x.file.path in
-    ap (named q) (taken ds i d is)
-    ∙ ap length (filter-append test (take i ds) (d ∷ []))
-    ∙ length-append (filter test (take i ds)) (cond (bytes_eq q d.file.path) (d ∷ []) [])
-    ∙ ap (λ n. named q (take i ds) + n) (one (bytes_eq q d.file.path) d)
-
-pub applied_more : (q : List ℕ) (lines : List OwnedLine) (i : ℕ) (line : OwnedLine) → slice_get lines i ≡ Some line
-    → applied (take (i + 1) lines) q ≡ applied (take i lines) q + named_in_line q line
-applied_more q lines i line is = ap (sum_by (named_in_line q)) (taken lines i line is)
-    ∙ sum_by-append (named_in_line q) (take i lines) (line ∷ []) ∙ omega arith
-
-pub one_at_most : (b : Bool) → cond b 1 0 ≤ 1
-one_at_most true = omega arith
-one_at_most false = omega arith

@@ -1,5 +1,5 @@
 -- To how many data files of a plan a delete file applies: so often the plan names it.
-use Rattle.std.specs.Prelude.{◌≡◌, ℕ, ◌+◌, List, filter, length, sum_by, unwrap_or}
+use Rattle.std.specs.Prelude.{◌≡◌, ℕ, ◌+◌, List, [], ◌∷◌, filter, if◌then◌else◌, length, sum_by, unwrap_or}
 use Rattle.std.specs.BTreeMap.{get_by}
 use Rattle.std.specs.Cmp.Lexicographic.{slice_cmp}
 use Rattle.std.specs.Ordering.{nat_cmp}
@@ -19,7 +19,13 @@ named_in_line path line = named path line.positions + named path line.equalities
 abbrev pub applied : List OwnedLine → List ℕ → ℕ
 applied plan path = sum_by (named_in_line path) plan
 
--- ---- counts by path
+-- ---- counts by place and by path
+
+-- how often those delete files were counted that have a path, where each one's count has its place
+abbrev pub times_at : List ℕ → List Entry → List ℕ → ℕ
+times_at path [] times = 0
+times_at path (d ∷ ds) [] = 0
+times_at path (d ∷ ds) (t ∷ ts) = (if bytes_eq path d.file.path then t else 0) + times_at path ds ts
 
 abbrev pub times_in : Applied → List ℕ → ℕ
 times_in a path = unwrap_or (get_by (λ k. slice_cmp nat_cmp path k.items) a.counts) 0

@@ -1,10 +1,14 @@
 //! To how many data files of a plan each delete file applies.
 
-ghost use Rattle.std.specs.Prelude.{◌≡◌, ◌+◌, ◌<◌, ◌≤◌, ◌^◌, ℕ, List, IfOk, OnOk, if◌then◌else◌};
+ghost use Rattle.std.specs.Prelude.{◌≡◌, ◌+◌, ◌<◌, ◌≤◌, ◌^◌, ℕ, List, IfOk, OnOk, if◌then◌else◌, length};
+ghost use Rattle.std.specs.List.{sum};
 ghost use Rattle.std.specs.Str.{bytes_eq};
-ghost use Rattle.icescan_explain.specs.Applying.{CountsOf, named, named_in_line, times_in};
+ghost use Rattle.ice_manifest_reading.specs.declared.entry.Entry.{Entry};
+ghost use Rattle.ice_state.specs.Lines.{AreWithin, entries_at};
+ghost use Rattle.ice_state.specs.PlacedFiles.{ArePlaced, plan_of};
+ghost use Rattle.icescan_explain.specs.Applying.{CountsOf, applied, named, times_at, times_in};
 
-use ice_state::{Line, Lines, PlanFiles};
+use ice_state::{Lines, PlacedFiles};
 use std::alloc::{AllocError, Global};
 use std::collections::BTreeMap;
 
@@ -25,55 +29,62 @@ impl Applied {
         }
     }
 
-    /// Counts a path once more.
-    fn add(&mut self, alloc: Global, path: &[u8]) -> Result<(), AllocError>
-        requires { times_in self.old path.now + 1 < 2 ^ 128 }
+    /// Counts a path so many times more.
+    fn add(&mut self, alloc: Global, path: &[u8], times: u128) -> Result<(), AllocError>
+        requires { times_in self.old path.now + times < 2 ^ 128 }
         ensures { OnOk result ((q : List ℕ) →
-            times_in self.new q ≡ times_in self.old q + (if bytes_eq q path.now then 1 else 0)) }
+            times_in self.new q ≡ times_in self.old q + (if bytes_eq q path.now then times else 0)) }
     {
         if let Some(count) = self.counts.get_mut(path) {
-            *count += 1;
+            *count += times;
             return Ok(());
         }
-        self.counts.insert(path.to_vec(alloc)?, 1)?;
+        self.counts.insert(path.to_vec(alloc)?, times)?;
         Ok(())
-    }
-
-    /// Counts the paths of some delete files.
-    fn add_files(&mut self, alloc: Global, files: &PlanFiles<'_>) -> Result<(), AllocError>
-        requires { (q : List ℕ) → times_in self.old q + 2 ^ 63 < 2 ^ 128 }
-        ensures told { OnOk result ((q : List ℕ) → times_in self.new q ≡ times_in self.old q + named q files.now) }
-        ensures few { OnOk result ((q : List ℕ) → times_in self.new q ≤ times_in self.old q + 2 ^ 63) }
-    {
-        'files: for i in 0..files.len() {
-            self.add(alloc, files.file(i).path())?;
-        }
-        Ok(())
-    }
-
-    /// Counts the paths of the delete files of a line.
-    fn add_line(&mut self, alloc: Global, line: &Line<'_>) -> Result<(), AllocError>
-        requires { (q : List ℕ) → times_in self.old q + 2 ^ 64 < 2 ^ 128 }
-        ensures told { OnOk result ((q : List ℕ) →
-            times_in self.new q ≡ times_in self.old q + named_in_line q line.now) }
-        ensures few { OnOk result ((q : List ℕ) → times_in self.new q ≤ times_in self.old q + 2 ^ 64) }
-    {
-        let positions = line.positions();
-        let equalities = line.equalities();
-        self.add_files(alloc, &positions)?;
-        self.add_files(alloc, &equalities)
     }
 
     /// Counts the paths of a plan's delete files.
     pub fn of(alloc: Global, lines: &Lines<'_>) -> Result<Applied, AllocError>
         ensures { IfOk result (λ applied. CountsOf applied lines.now) }
     {
+        let plan = lines.placed_files();
+        let times = times_by_place(alloc, &plan)?;
         let mut applied = Applied {
             counts: BTreeMap::new(alloc),
         };
-        'lines: for i in 0..lines.len() {
-            applied.add_line(alloc, &lines.line(i))?;
+        'deletes: for i in 0..plan.count_deletes() {
+            applied.add(alloc, plan.delete(i).path(), times[i])?;
         }
         Ok(applied)
     }
+}
+
+/// Counts the delete files at some places once more, each by its place.
+fn count_places(times: &mut [u128], places: &[u32])
+    requires within { AreWithin (length times.old) places.now }
+    requires few { sum times.old + length places.now < 2 ^ 128 }
+    ensures same { length times.new ≡ length times.old }
+    ensures all { sum times.new ≡ sum times.old + length places.now }
+    ensures told { (deletes : List Entry) → length deletes ≡ length times.old → (q : List ℕ) →
+        times_at q deletes times.new ≡ times_at q deletes times.old + named q (entries_at deletes places.now) }
+{
+    'places: for i in 0..places.len() {
+        times[places[i] as usize] += 1;
+    }
+}
+
+/// How often a plan names each of its delete files, by their places.
+fn times_by_place(alloc: Global, plan: &PlacedFiles<'_>) -> Result<Vec<u128>, AllocError>
+    requires { ArePlaced plan.now }
+    ensures each { IfOk result (λ times. length times.items ≡ length plan.now.deletes) }
+    ensures few { IfOk result (λ times. sum times.items < 2 ^ 128) }
+    ensures told { IfOk result (λ times. (q : List ℕ) →
+        times_at q plan.now.deletes times.items ≡ applied (plan_of plan.now) q) }
+{
+    let mut times = vec![in alloc; 0; plan.count_deletes()]?;
+    'files: for i in 0..plan.count_files() {
+        count_places(&mut times, plan.positions(i));
+        count_places(&mut times, plan.equalities(i));
+    }
+    Ok(times)
 }
