@@ -10,6 +10,7 @@ ghost use Rattle.ice_desk.specs.Works.{Serves, Worked};
 use crate::desk::{Claim, Desk, Seat};
 use crate::files::{Files, ReadFault};
 use crate::left::{Left, Served};
+use avro_file::KnownSchema;
 use ice_state::{Partial, Scan};
 use std::alloc::Global;
 
@@ -19,8 +20,16 @@ pub trait Gate {
     fn before_take(&self, worker: usize, i: usize);
 }
 
-/// Reads and takes a manifest, and marks it then; unless it was marked before. `bytes` is the room that it is read
-/// into.
+/// What a worker keeps from one manifest to the next.
+#[derive(Drop)]
+struct Room {
+    /// The room that manifests are read into.
+    bytes: Vec<u8>,
+    /// The schema of the manifest that was taken last.
+    last: Option<KnownSchema>,
+}
+
+/// Reads and takes a manifest, and marks it then; unless it was marked before.
 fn serve<F: Files, G: Gate>(
     alloc: Global,
     files: &F,
@@ -31,7 +40,7 @@ fn serve<F: Files, G: Gate>(
     worker: usize,
     gate: &G,
     i: usize,
-    bytes: &mut Vec<u8>,
+    room: &mut Room,
 ) -> Served
     requires seat { IsSeatOf desk.now seat.old }
     requires state { IsOf scan.now state.old }
@@ -48,8 +57,8 @@ fn serve<F: Files, G: Gate>(
     }
     gate.before_take(worker, i);
     let row = &scan.wanted()[i];
-    match files.read_into(alloc, row.path.as_str(), bytes) {
-        Ok(()) => match state.take(scan, i, bytes.as_slice()) {
+    match files.read_into(alloc, row.path.as_str(), &mut room.bytes) {
+        Ok(()) => match state.take_after(scan, i, room.bytes.as_slice(), &mut room.last) {
             Ok(()) => {
                 desk.mark(seat, i);
                 Served::Taken
@@ -87,10 +96,13 @@ pub fn work<F: Files, G: Gate>(
     ensures given { IsGiven (F.gives files.now) scan.now state.old → IsGiven (F.gives files.now) scan.now state.new }
 {
     let mut left = Left::none();
-    let mut bytes = Vec::new(alloc);
+    let mut room = Room {
+        bytes: Vec::new(alloc),
+        last: None,
+    };
     while let Claim::Index(i) = desk.claim(seat) {
         let served = serve(
-            alloc, files, scan, desk, seat, state, worker, gate, i, &mut bytes,
+            alloc, files, scan, desk, seat, state, worker, gate, i, &mut room,
         );
         left.count(served);
     }

@@ -19,9 +19,11 @@ use std::alloc::{AllocError, Global};
 
 /// What is asked of each live entry: whether it is kept, and what is told of it.
 #[derive(Drop)]
-pub(crate) struct Asked<'a, K, T> {
-    pub(crate) keep: &'a K,
-    pub(crate) tell: &'a T,
+pub struct Asked<'a, K, T> {
+    /// Whether an entry is kept.
+    pub keep: &'a K,
+    /// What is told of an entry, kept or not.
+    pub tell: &'a T,
 }
 
 /// Gathers an entry if it is kept.

@@ -11,6 +11,7 @@ mod keep;
 mod laws;
 mod list;
 mod manifest;
+mod opening;
 mod row;
 mod shape;
 mod status;
@@ -19,6 +20,7 @@ mod tally;
 mod tell;
 mod tuple;
 
+pub use collect::Asked;
 pub use counts::Counts;
 pub use data_file::DataFile;
 pub use entry::{Entry, EntryView, LentEntry, Live};
@@ -33,7 +35,9 @@ pub use laws::{
     rows_are_a_set, rows_are_refused_together, snapshots_are_inherited,
 };
 pub use list::read_list;
-pub use manifest::{read_into, read_into_told, read_kept, read_manifest, read_tallied, read_told};
+pub use manifest::{
+    read_after, read_into, read_into_told, read_kept, read_manifest, read_tallied, read_told,
+};
 pub use row::{ManifestContent, Row};
 pub use status::Status;
 pub use tally::{Tallied, Tallies, Tally};

@@ -39,13 +39,14 @@ use crate::data_file::FileView;
 use crate::entry::{Entry, EntryView};
 use crate::gather::Gather;
 use crate::keep::{Everything, Keep};
+use crate::opening::open_after;
 use crate::row::{ManifestContent, Row};
 use crate::shape::check_entry_fields;
 use crate::status::Status;
 use crate::tally::{Counted, Tallied, Tallies};
 use crate::tell::{Silent, Tell};
 use crate::tuple::tuple_at;
-use avro_file::{Container, Objects, objects_take_bytes};
+use avro_file::{KnownSchema, Objects, objects_take_bytes};
 use avro_file_picked::Layout;
 use contract_words::Items;
 use ice_manifest_fields::{FieldFault, ManifestFault, fields_of, type_at};
@@ -425,7 +426,8 @@ fn all_entries<'s, 'd, K: Keep, T: Tell, G: Gather<'d>>(
 }
 
 /// What is told of the live entries of a row's manifest, of which those that are kept are gathered, in the order of
-/// their positions, and how many entries there are. The fault is that of `read_kept`.
+/// their positions, and how many entries there are. `last` is the schema of the manifest that was read before. The fault
+/// is that of `read_kept`.
 #[tactic(auto, unfolding(crate::specs::Manifests::live_of, crate::specs::Tallying::tallies_of))]
 fn read_given<'d, K: Keep, T: Tell, G: Gather<'d>>(
     alloc: Global,
@@ -434,6 +436,7 @@ fn read_given<'d, K: Keep, T: Tell, G: Gather<'d>>(
     asked: &Asked<'_, K, T>,
     bytes: &'d [u8],
     gather: &mut G,
+    last: &mut Option<KnownSchema>,
 ) -> Result<Tallied<T::Told>, ManifestFault>
     ensures told { Gives ManifestFault.Memory (λ read. read.told.items) result
         (given_of (told_each (T.told asked.now.tell.now)) (live_of row.now spec.now bytes.now)) }
@@ -443,7 +446,7 @@ fn read_given<'d, K: Keep, T: Tell, G: Gather<'d>>(
     ensures keeps { G.keeps gather.old gather.new }
     ensures tallies { IfOk result (λ read. read.tallies ≡ tallies_of bytes.now) }
 {
-    let container = Container::open(alloc, bytes)?;
+    let container = open_after(alloc, last, bytes)?;
     let schema = container.schema();
     check_entry_fields(spec, fields_of(schema))?;
     let layout = entry_layout(alloc, schema, spec.fields.as_slice())?;
@@ -455,6 +458,28 @@ fn read_given<'d, K: Keep, T: Tell, G: Gather<'d>>(
     // An entry takes a byte at least, so there are no more of them than bytes.
     objects_take_bytes();
     all_entries(alloc, &source, asked, gather, &layout, container.objects())
+}
+
+/// As `read_into_told`, for manifests that are read one after the other: `last` is the schema of the one before, and
+/// then this one's. A schema of the same text is not read again, so where most manifests have one schema, they take
+/// less time; nothing else depends on it.
+pub fn read_after<'d, K: Keep, T: Tell, G: Gather<'d>>(
+    alloc: Global,
+    row: &Row,
+    spec: &Spec,
+    asked: &Asked<'_, K, T>,
+    bytes: &'d [u8],
+    gather: &mut G,
+    last: &mut Option<KnownSchema>,
+) -> Result<Vec<T::Told>, ManifestFault>
+    ensures told { Gives ManifestFault.Memory (λ found. found.items) result
+        (told_of (T.told asked.now.tell.now) (live_of row.now spec.now bytes.now)) }
+    ensures gathered { Gives ManifestFault.Memory (λ _. G.gathered gather.new) result
+        (behind (G.gathered gather.old) (kept_of (K.kept asked.now.keep.now) (live_of row.now spec.now bytes.now))) }
+    ensures keeps { G.keeps gather.old gather.new }
+{
+    let read = read_given(alloc, row, spec, asked, bytes, gather, last)?;
+    Ok(read.told)
 }
 
 /// Gathers those live entries of a row's manifest that are kept, as `read_into` does, and gives what is told of each
@@ -475,8 +500,15 @@ pub fn read_into_told<'d, K: Keep, T: Tell, G: Gather<'d>>(
         (behind (G.gathered gather.old) (kept_of (K.kept keep.now) (live_of row.now spec.now bytes.now))) }
     ensures keeps { G.keeps gather.old gather.new }
 {
-    let read = read_given(alloc, row, spec, &Asked { keep, tell }, bytes, gather)?;
-    Ok(read.told)
+    read_after(
+        alloc,
+        row,
+        spec,
+        &Asked { keep, tell },
+        bytes,
+        gather,
+        &mut None,
+    )
 }
 
 /// Gathers those live entries of a row's manifest that are kept, as they are read: in the order of their positions,
@@ -557,7 +589,8 @@ pub fn read_tallied<T: Tell>(
     let mut none = Views {
         list: Vec::new(alloc),
     };
-    read_given(alloc, row, spec, &Asked { keep, tell }, bytes, &mut none)
+    let asked = &Asked { keep, tell };
+    read_given(alloc, row, spec, asked, bytes, &mut none, &mut None)
 }
 
 /// The entries, with copies of their paths.

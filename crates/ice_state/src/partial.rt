@@ -30,6 +30,7 @@ use crate::kept::taken::{Taken, TakenTold, take_manifest};
 use crate::laws::filtering;
 use crate::plan::{OwnedPlan, Plan};
 use crate::scan::Scan;
+use avro_file::KnownSchema;
 use ice_manifest_reading::{ManifestFault, Silent, Tell, read_told};
 use std::alloc::{AllocError, Global};
 use std::marker::Model;
@@ -105,10 +106,35 @@ impl Partial {
             HasBytes world scan.now i bytes.now →
             OnOk result (self.new ≡ content world scan.now (add ts i)) }
     {
+        self.take_after(scan, i, bytes, &mut None)
+    }
+
+    /// As `take`, for manifests that are taken one after the other: `last` is the schema of the one before, and then
+    /// this one's. A schema of the same text is not read again; nothing else depends on it.
+    pub fn take_after(
+        &mut self,
+        scan: &Scan,
+        i: usize,
+        bytes: &[u8],
+        last: &mut Option<KnownSchema>,
+    ) -> Result<(), AllocError>
+        requires of_scan { IsOf scan.now self.old }
+        requires row { i < length scan.now.wanted }
+
+        ensures of_scan { IsOf scan.now self.new }
+        ensures again { IsTrue (is_row_taken self.old i) → IsOk result }
+        ensures still { IsTrue (is_row_taken self.old i) → self.new ≡ self.old }
+        ensures ok { OnOk result (self.new ≡ took scan.now self.old i bytes.now) }
+        ensures err { OnErr result (self.new ≡ self.old) }
+        ensures world { (world : World) (ts : List Bool) →
+            self.old ≡ content world scan.now ts →
+            HasBytes world scan.now i bytes.now →
+            OnOk result (self.new ≡ content world scan.now (add ts i)) }
+    {
         if self.is_taken(i) {
             return Ok(());
         }
-        let _ = self.take_new(scan, i, bytes, &Silent)?;
+        let _ = self.take_new(scan, i, bytes, &Silent, last)?;
         Ok(())
     }
 
@@ -140,17 +166,19 @@ impl Partial {
         if self.is_taken(i) {
             return read_told(self.alloc, &scan.wanted()[i], scan.spec(i), tell, bytes);
         }
-        self.take_new(scan, i, bytes, tell)?
+        self.take_new(scan, i, bytes, tell, &mut None)?
     }
 
     /// Takes the manifest of a wanted row that was not taken, and gives what is told of its live entries, or why it
-    /// can't be read. A refusal, for want of memory, leaves the state as it was.
+    /// can't be read. A refusal, for want of memory, leaves the state as it was. `last` is the schema of the manifest
+    /// that was taken before.
     fn take_new<T: Tell>(
         &mut self,
         scan: &Scan,
         i: usize,
         bytes: &[u8],
         tell: &T,
+        last: &mut Option<KnownSchema>,
     ) -> Result<Result<Vec<T::Told>, ManifestFault>, AllocError>
         requires of_scan { IsOf scan.now self.old }
         requires row { i < length scan.now.wanted }
@@ -172,6 +200,7 @@ impl Partial {
             &filter,
             tell,
             bytes,
+            last,
         )?;
         self.deletes = with_taken(self.alloc, self.deletes.take(), &self.entries, &taken);
         put_row(&mut self.slots, i, taken);

@@ -13,7 +13,8 @@ use crate::kept::gathering::Gathering;
 use crate::kept::ordered::Ordered;
 use crate::kept::segments::Segments;
 use crate::scan::pruning::SpecFilter;
-use ice_manifest_reading::{ManifestFault, Row, Tell, read_into_told};
+use avro_file::KnownSchema;
+use ice_manifest_reading::{Asked, ManifestFault, Row, Tell, read_after};
 use std::alloc::{AllocError, Global};
 use std::mem;
 
@@ -35,7 +36,8 @@ pub struct TakenTold<T> {
 }
 
 /// What a row's manifest with these bytes gives, read by the filter through its spec, and what is told of its live
-/// entries. Its kept entries are put to the last segment as they are read.
+/// entries. Its kept entries are put to the last segment as they are read. `last` is the schema of the manifest that was
+/// taken before.
 pub fn take_manifest<T: Tell>(
     alloc: Global,
     entries: &mut Segments,
@@ -43,6 +45,7 @@ pub fn take_manifest<T: Tell>(
     filter: &SpecFilter<'_>,
     tell: &T,
     bytes: &[u8],
+    last: &mut Option<KnownSchema>,
 ) -> Result<TakenTold<T::Told>, AllocError>
     ensures keeps { Keeps entries.old entries.new }
     ensures numbers { IfOk result (λ both. HasNumbers entries.new both.taken) }
@@ -54,14 +57,15 @@ pub fn take_manifest<T: Tell>(
     let segment = entries.begin(alloc, bytes.len() / ENTRY_BYTES)?;
     let segments = mem::replace(entries, Segments::new(alloc));
     let mut gathering = Gathering::new(alloc, segments, segment);
-    let told = read_into_told(
+    let asked = Asked { keep: filter, tell };
+    let told = read_after(
         alloc,
         row,
         filter.spec(),
-        filter,
-        tell,
+        &asked,
         bytes,
         &mut gathering,
+        last,
     );
     let (segments, numbers) = gathering.into_parts();
     *entries = segments;

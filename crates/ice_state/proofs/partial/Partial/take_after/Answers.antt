@@ -1,7 +1,7 @@
 use Rattle.std.proofs.Common.{◌∙◌, ◌≡◌, sym, true, false, ap, length}
 use Rattle.ice_state.proofs.Contents.{took-in_world, length-took}
 use Rattle.ice_state.proofs.Taking.{taken_stays}
-use Rattle.ice_state.proofs.partial.Partial.take.Goals as goal
+use Rattle.ice_state.proofs.partial.Partial.take_after.Goals as goal
 
 pub returns-then-is_taken-clause-ok : goal.returns-then-is_taken-clause-ok
 returns-then-is_taken-clause-ok c =
