@@ -2,10 +2,13 @@
 use Rattle.std.proofs.Common.{◌≡◌, ◌∙◌, ℕ, Bool, true, false, List, Some, ap, map, option_and_then, refl, sym}
 use Rattle.std.specs.Prelude.{Result, Ok, Err, nat_le, ◌&&◌, if◌then◌else◌}
 use Rattle.contract_words.specs.Outcome.{◌>>=◌}
+use Rattle.serde_json.specs.Data.{Data}
 use Rattle.serde_json.specs.Read.{read}
 use Rattle.serde_json.specs.Written.{compact_text}
 use Rattle.icescan_json.specs.PlanJson.{plan_json}
-use Rattle.icescan_json.specs.Told.{HasFittingNumbers, paths_of, told}
+use Rattle.icescan_json.proofs.FiltersThere.{asked_there}
+use Rattle.icescan_json.specs.Expressions.{asked_text}
+use Rattle.icescan_json.specs.Told.{CanBeRead, HasFittingNumbers, paths_of, told}
 use Rattle.icescan_json.specs.Types.{spec_types}
 use Rattle.icescan_json.specs.declared.types.SpecTypes.{SpecTypes}
 use Rattle.icescan_requests.specs.ListPlans.{list_answer}
@@ -24,22 +27,34 @@ use Rattle.icescan_json.specs.JsonAnswers.{typed_list_answer}
 use Rattle.icescan_json.specs.declared.typed.TypedPlan.{TypedPlan}
 
 -- putting something beside a plan leaves the plan, or the refusal
+with_residual : (residual : Result (List ℕ) RunFault) → ((r : List ℕ) × (residual ≡ Ok r))
+    → (plan : Result (List OwnedLine) RunFault) (put : List ℕ → List OwnedLine → TypedPlan)
+    → ((r : List ℕ) (lines : List OwnedLine) → (put r lines).plan ≡ lines)
+    → plan_answered (plan >>= λ lines. residual >>= λ r. Ok (put r lines)) ≡ plan
+with_residual residual some (Ok lines) put same = rw (some.1, same some.0 lines) refl
+with_residual residual some (Err e) put same = refl
+
 beside : (plan : Result (List OwnedLine) RunFault) (put : List OwnedLine → TypedPlan)
     → ((lines : List OwnedLine) → (put lines).plan ≡ lines) → plan_answered (plan >>= λ lines. Ok (put lines)) ≡ plan
 beside (Ok lines) put same = rw (same lines) refl
 beside (Err e) put same = refl
 
 behind_first : {A : Type 0} (first : Result A RunFault) (next : A → Result (List OwnedLine) RunFault)
-    (put : A → List OwnedLine → TypedPlan) → ((a : A) (lines : List OwnedLine) → (put a lines).plan ≡ lines)
-    → plan_answered (first >>= λ a. (first >>= next) >>= λ lines. Ok (put a lines)) ≡ (first >>= next)
-behind_first (Ok a) next put same = beside (next a) (put a) (same a)
-behind_first (Err e) next put same = refl
+    (residual : Result (List ℕ) RunFault) → ((a : A) → first ≡ Ok a → (r : List ℕ) × (residual ≡ Ok r))
+    → (put : A → List ℕ → List OwnedLine → TypedPlan)
+    → ((a : A) (r : List ℕ) (lines : List OwnedLine) → (put a r lines).plan ≡ lines)
+    → plan_answered (first >>= λ a. (first >>= next) >>= λ lines. residual >>= λ r. Ok (put a r lines))
+    ≡ (first >>= next)
+behind_first (Ok a) next residual some put same = with_residual residual (some a refl) (next a) (put a) (same a)
+behind_first (Err e) next residual some put same = refl
 
 pub of_metadata : (ending : Ending) (world : World) (metadata : List ℕ) (request : Request)
     → plan_answered (typed_answer_by ending world metadata request) ≡ answer_by ending world metadata request
 unfolding typed_answer_by answer_by
-of_metadata ending world metadata request = behind_first (selected metadata request) _
-    (λ selection lines. record { types = map spec_types selection.specs; plan = lines }) (λ selection lines. refl)
+of_metadata ending world metadata request = behind_first (selected metadata request) _ (asked_text metadata request)
+    (asked_there metadata request)
+    (λ selection r lines. record { types = map spec_types selection.specs; residual = r; plan = lines })
+    (λ selection r lines. refl)
 
 of_crew : (enough : Bool) (typed : Result TypedPlan RunFault) (plan : Result (List OwnedLine) RunFault)
     → plan_answered typed ≡ plan
@@ -70,12 +85,14 @@ asked_plan ending world path request workers typed is =
     sym (same_at ending world path request workers) ∙ ap plan_answered is
 
 -- the text of a plan tells the plan, where the text of its files at their places does
-pub tells_plan : ((types : List SpecTypes) (p : PlanPlaces) → HasFittingNumbers p → ArePlaced p
-    → option_and_then told (read (compact_text (plan_json types p))) ≡ Some (map paths_of (plan_of p)))
-    → (typed : TypedPlan) (text : List ℕ) (json : IsJsonOfPlan typed text) → HasFittingNumbers json.files
-    → TellsPlan typed.plan text
-tells_plan is_plan typed text json fitting = (
-  compact_text (plan_json typed.types json.files),
+pub tells_plan : ((types : List SpecTypes) (residual : Data) (p : PlanPlaces) → CanBeRead residual
+    → HasFittingNumbers p → ArePlaced p
+    → option_and_then told (read (compact_text (plan_json types residual p))) ≡ Some (map paths_of (plan_of p)))
+    → (typed : TypedPlan) (text : List ℕ) (json : IsJsonOfPlan typed text) → CanBeRead json.filter
+    → HasFittingNumbers json.files → TellsPlan typed.plan text
+tells_plan is_plan typed text json can fitting = (
+  compact_text (plan_json typed.types json.filter json.files),
   json.text_is,
-  is_plan typed.types json.files fitting json.placed ∙ ap (λ plan. Some (map paths_of plan)) json.plan_is,
+  is_plan typed.types json.filter json.files can fitting json.placed
+      ∙ ap (λ plan. Some (map paths_of plan)) json.plan_is,
 )

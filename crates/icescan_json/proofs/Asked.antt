@@ -17,27 +17,26 @@ use Rattle.icescan_text.specs.declared.fault.RunFault.{RunFault}
 use Rattle.icescan_text.specs.declared.request.Request.{Request}
 use Rattle.icescan_text.proofs.Steps.{ends_before, same_next}
 use Rattle.icescan_text.proofs.Enough.{enough}
+use Rattle.icescan_json.specs.Expressions.{asked_text}
 use Rattle.icescan_json.specs.JsonAnswers.{typed_answer_at, typed_answer_by}
 use Rattle.icescan_json.specs.declared.typed.TypedPlan.{TypedPlan}
 use Rattle.icescan_json.proofs.AnswersTold.{same_at}
 
-abbrev with_types : Selection → List OwnedLine → TypedPlan
-with_types selection plan = record { types = map spec_types selection.specs; plan = plan }
-
 module _ (ending : Ending) (world : World) (metadata : List ℕ) (request : Request) where
-  typed_there : (selection : Selection) (plan : List OwnedLine) → selected metadata request ≡ Ok selection
-      → answer_by ending world metadata request ≡ Ok plan
-      → typed_answer_by ending world metadata request ≡ Ok (with_types selection plan)
+  typed_there : (selection : Selection) (plan : List OwnedLine) (residual : List ℕ)
+      → selected metadata request ≡ Ok selection → answer_by ending world metadata request ≡ Ok plan
+      → asked_text metadata request ≡ Ok residual → typed_answer_by ending world metadata request
+      ≡ Ok (record { types = map spec_types selection.specs; residual = residual; plan = plan })
   unfolding typed_answer_by
-  typed_there selection plan is has = rw (is, has) refl
+  typed_there selection plan residual is has asked = rw (is, has, asked) refl
 
   -- the plan, with the types of the specs that are selected
   pub typed_found : (specs : List Spec) (typed : TypedPlan) → AreSelected metadata request specs
       → answer_by ending world metadata request ≡ Ok typed.plan → typed.types ≡ map spec_types specs
-      → typed_answer_by ending world metadata request ≡ Ok typed
-  typed_found specs typed asked has types =
-      typed_there asked.0 typed.plan asked.1 has
-      ∙ ap Ok (ap (λ known. record { types = known; plan = typed.plan })
+      → asked_text metadata request ≡ Ok typed.residual → typed_answer_by ending world metadata request ≡ Ok typed
+  typed_found specs typed asked has types residual =
+      typed_there asked.0 typed.plan typed.residual asked.1 has residual
+      ∙ ap Ok (ap (λ known. record { types = known; residual = typed.residual; plan = typed.plan })
       (ap (map spec_types) (sym asked.2) ∙ sym types))
 
 -- the same plan is the same answer
@@ -76,9 +75,8 @@ module _ (world : World) (path : List ℕ) (request : Request) (workers : ℕ) w
     typed_behind = enough workers _ some few ∙ rw has refl
 
     pub typed_found_at : (specs : List Spec) (typed : TypedPlan) → AreSelected metadata request specs
-        → answer_at over_wanted_rows world path request workers ≡ Ok typed.plan → typed.types ≡ map spec_types specs
+        → answer_by over_wanted_rows world metadata request ≡ Ok typed.plan → typed.types ≡ map spec_types specs
+        → asked_text metadata request ≡ Ok typed.residual
         → typed_answer_at over_wanted_rows world path request workers ≡ Ok typed
-    typed_found_at specs typed asked is types =
-        typed_behind
-        ∙ typed_found over_wanted_rows world metadata request specs typed asked
-        (sym (answer_behind (λ _. ⊥) world path request workers some few metadata has) ∙ is) types
+    typed_found_at specs typed asked is types residual =
+        typed_behind ∙ typed_found over_wanted_rows world metadata request specs typed asked is types residual

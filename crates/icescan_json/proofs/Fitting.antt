@@ -21,12 +21,11 @@ use Rattle.ice_state.specs.Lines.{AreWithin, IsLineWithin}
 use Rattle.icescan_json.specs.declared.types.SpecTypes.{SpecTypes}
 use Rattle.icescan_json.specs.Types.{types_of}
 use Rattle.icescan_json.specs.Dates.{time_text}
-use Rattle.icescan_forms.specs.Objects.{number_json}
+use Rattle.icescan_forms.specs.Objects.{count_json, number_json}
 use Rattle.icescan_json.specs.Values.{time_json, whole_json, bytes_json, cell_json, cells_json, type_at}
 use Rattle.icescan_json.specs.PlanJson.{member_if, file_members, format_name, kind_members, delete_json}
 use Rattle.icescan_json.specs.PlanJson.{data_json, references, task_json, tasks_json, plan_json}
-use Rattle.icescan_json.specs.Told.{FitsCell, FitsEntry, HasFittingNumbers}
-use Rattle.icescan_json.proofs.ReadBack.{Fits, FitsItems, FitsMembers}
+use Rattle.icescan_json.specs.Told.{CanBeRead, Fits, FitsCell, FitsEntry, FitsItems, FitsMembers, HasFittingNumbers}
 
 -- what fits and nests no deeper
 abbrev Low : ℕ → Data → Type 0
@@ -111,7 +110,8 @@ abbrev behind_format : List SpecTypes → Entry → Members → Members
 behind_format types x rest = member (codes "spec-id") (number_json x.spec_id)
     (member (codes "partition") (array (cells_json (types_of types x.spec_id) x.file.tuple))
     (member (codes "file-size-in-bytes") (number_json x.file.file_size)
-    (member (codes "record-count") (number_json x.file.record_count) rest)))
+    (member (codes "record-count") (number_json x.file.record_count)
+    (member (codes "sequence-number") (count_json x.sequence_number) rest))))
 
 behind_low : (types : List SpecTypes) (x : Entry) (rest : Members) → FitsEntry x → LowMembers 1 rest
     → LowMembers 1 (behind_format types x rest)
@@ -122,7 +122,7 @@ behind_low types x rest h low =
     let spec = number_low x.spec_id h.spec in
     let size = number_low x.file.file_size h.size in
     let rows = number_low x.file.record_count h.rows in (
-      (spec.0, (cells.0, (size.0, (rows.0, low.0)))),
+      (spec.0, (cells.0, (size.0, (rows.0, (h.sequence, low.0))))),
       omega (arith, spec.1, cells.1, size.1, rows.1, low.1),
     )
 
@@ -158,11 +158,12 @@ data_low types x h =
 place_low : (n : ℕ) → n < 2 ^ 64 → Low 0 (number (unsigned n))
 place_low n h = (h, omega arith)
 
-references_low : (ns : List ℕ) → AllByRecursion (λ n. n < 2 ^ 64) ns → LowMembers 1 (references ns)
-references_low [] h = (tt, omega arith)
-references_low (n ∷ ns) h =
+references_low : (ns : List ℕ) → AllByRecursion (λ n. n < 2 ^ 64) ns → (rest : Members) → LowMembers 124 rest
+    → LowMembers 124 (references ns rest)
+references_low [] h rest low = low
+references_low (n ∷ ns) h rest low =
     let items = each_low (λ i. number (unsigned i)) 0 (λ n. n < 2 ^ 64) place_low (n ∷ ns) h in
-    ((items.0, tt), omega (arith, items.1))
+    ((items.0, low.0), omega (arith, items.1, low.1))
 
 below : (k : ℕ) (ps es : List ℕ) → k < 2 ^ 64 → AreWithin k ps → AreWithin k es
     → AllByRecursion (λ n. n < 2 ^ 64) (ps ++ es)
@@ -170,28 +171,31 @@ below k [] [] h a b = tt
 below k [] (e ∷ es) h a b = (omega (arith, b.0), below k [] es h tt b.1)
 below k (p ∷ ps) es h a b = (omega (arith, a.0), below k ps es h a.1 b)
 
-task_low : (types : List SpecTypes) (k : ℕ) (x : Entry) (places : LinePlaces) → FitsEntry x → k < 2 ^ 64
-    → IsLineWithin k places → Low 3 (task_json types x places)
-unfolding task_json
-task_low types k x places h few within =
-    let file = data_low types x h in
-    let low = references_low (places.positions ++ places.equalities)
-    (below k places.positions places.equalities few within.0 within.1) in
-    ((file.0, low.0), omega (arith, file.1, low.1))
+module _ (types : List SpecTypes) (residual : Data) (can : CanBeRead residual) where
+  task_low : (k : ℕ) (x : Entry) (places : LinePlaces) → FitsEntry x → k < 2 ^ 64 → IsLineWithin k places
+      → Low 125 (task_json types residual x places)
+  unfolding task_json
+  task_low k x places h few within =
+      let file = data_low types x h in
+      let deep = can.shallow in
+      let low = references_low (places.positions ++ places.equalities)
+      (below k places.positions places.equalities few within.0 within.1)
+      (member (codes "residual-filter") residual no_members) ((can.fits, tt), omega (arith, deep)) in
+      ((file.0, low.0), omega (arith, file.1, low.1))
 
-tasks_low : (types : List SpecTypes) (k : ℕ) → k < 2 ^ 64 → (xs : List Entry) (ps : List LinePlaces)
-    → AllByRecursion FitsEntry xs → AllByRecursion (IsLineWithin k) ps
-    → FitsItems (items_of (tasks_json types xs ps)) × (items_depth (items_of (tasks_json types xs ps)) ≤ 3)
-tasks_low types k few [] ps h within = (tt, omega arith)
-tasks_low types k few (x ∷ xs) [] h within = (tt, omega arith)
-tasks_low types k few (x ∷ xs) (p ∷ ps) h within =
-    let a = task_low types k x p h.0 few within.0 in
-    let b = tasks_low types k few xs ps h.1 within.1 in
-    ((a.0, b.0), omega (arith, a.1, b.1))
+  tasks_low : (k : ℕ) → k < 2 ^ 64 → (xs : List Entry) (ps : List LinePlaces) → AllByRecursion FitsEntry xs
+      → AllByRecursion (IsLineWithin k) ps → FitsItems (items_of (tasks_json types residual xs ps))
+      × (items_depth (items_of (tasks_json types residual xs ps)) ≤ 125)
+  tasks_low k few [] ps h within = (tt, omega arith)
+  tasks_low k few (x ∷ xs) [] h within = (tt, omega arith)
+  tasks_low k few (x ∷ xs) (p ∷ ps) h within =
+      let a = task_low k x p h.0 few within.0 in
+      let b = tasks_low k few xs ps h.1 within.1 in
+      ((a.0, b.0), omega (arith, a.1, b.1))
 
-pub plan_fits : (types : List SpecTypes) (p : PlanPlaces) → HasFittingNumbers p → ArePlaced p
-    → Fits (plan_json types p) × (depth (plan_json types p) ≤ 127)
-plan_fits types p h placed =
-    let deletes = each_low (delete_json types) 2 FitsEntry (delete_low types) p.deletes h.deletes in
-    let tasks = tasks_low types (length p.deletes) h.few p.files p.places h.files placed.within in
-    ((tt, (deletes.0, (tasks.0, tt))), omega (arith, deletes.1, tasks.1))
+  pub plan_fits : (p : PlanPlaces) → HasFittingNumbers p → ArePlaced p
+      → Fits (plan_json types residual p) × (depth (plan_json types residual p) ≤ 127)
+  plan_fits p h placed =
+      let deletes = each_low (delete_json types) 2 FitsEntry (delete_low types) p.deletes h.deletes in
+      let tasks = tasks_low (length p.deletes) h.few p.files p.places h.files placed.within in
+      ((tt, (deletes.0, (tasks.0, tt))), omega (arith, deletes.1, tasks.1))

@@ -12,3 +12,5 @@ pub mod Written
 pub mod Asked
 pub mod Listings
 pub mod AnswersTold
+pub mod Joined
+pub mod FiltersThere

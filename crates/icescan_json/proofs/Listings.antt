@@ -7,6 +7,7 @@ use Rattle.ice_state.specs.Lines.{OwnedLine}
 use Rattle.icescan_text.specs.Reads.{MayEnd}
 use Rattle.icescan_text.specs.declared.fault.RunFault.{RunFault}
 use Rattle.icescan_text.proofs.Steps.{first_ends}
+use Rattle.icescan_json.specs.Expressions.{every_row_text}
 use Rattle.icescan_json.specs.JsonAnswers.{typed_list_answer}
 
 pub refused_listed : (world : World) (list : List ℕ) (r : List ℕ → Type 0) (e : RunFault)
@@ -15,6 +16,6 @@ unfolding typed_list_answer
 refused_listed world list r e h = first_ends r ⊥ r (list_answer world list) _ e (λ p m. m) h
 
 pub plan_listed : (world : World) (list : List ℕ) (plan : List OwnedLine) → list_answer world list ≡ Ok plan
-    → typed_list_answer world list ≡ Ok (record { types = []; plan = plan })
+    → typed_list_answer world list ≡ Ok (record { types = []; residual = every_row_text; plan = plan })
 unfolding typed_list_answer
 plan_listed world list plan h = rw h refl

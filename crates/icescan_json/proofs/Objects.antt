@@ -1,10 +1,10 @@
 -- The texts of objects, member by member.
-use Rattle.std.proofs.Common.{◌≡◌, ℕ, List, [], ◌∷◌, ◌++◌, map, Option, None, Some, refl, ap, ◌∙◌, append_assoc}
+use Rattle.std.proofs.Common.{◌≡◌, ℕ, suc, List, [], ◌∷◌, ◌++◌, map, Option, None, Some, refl, ap, ◌∙◌, append_assoc}
 use Rattle.std.specs.Prelude.{codes, true, false, option_map}
 use Rattle.std.specs.Fmt.{signed_decimal}
 use Rattle.std.specs.List.{enumerate_from}
 use Rattle.json.specs.Print.{escape_byte, quoted}
-use Rattle.serde_json.specs.Data.{string, array, object, number, unsigned, Members, no_members, member}
+use Rattle.serde_json.specs.Data.{Data, string, array, object, number, unsigned, Members, no_members, member}
 use Rattle.serde_json.specs.View.{items_of}
 use Rattle.serde_json.specs.Written.{compact_text, items_text, members_text}
 use Rattle.ice_value.specs.declared.file_content.FileContent.{FileContent}
@@ -14,18 +14,21 @@ use Rattle.ice_manifest_reading.specs.declared.entry.Entry.{Entry}
 use Rattle.ice_state.specs.PlaceLists.{LinePlaces}
 use Rattle.ice_state.specs.PlacedFiles.{PlanPlaces}
 use Rattle.icescan_json.specs.declared.types.SpecTypes.{SpecTypes}
-use Rattle.icescan_forms.specs.Objects.{number_json}
+use Rattle.icescan_forms.specs.Objects.{count_json, number_json}
 use Rattle.icescan_json.specs.Values.{cell_json, cells_json, type_at}
 use Rattle.icescan_json.specs.Types.{types_of}
 use Rattle.icescan_json.specs.PlanJson.{member_if, content_name, format_name, file_members, kind_members, delete_json}
 use Rattle.icescan_json.specs.PlanJson.{data_json, references, task_json, tasks_json}
 use Rattle.icescan_json.specs.Texts.{file_head, file_partition, file_sizes, file_text, format_text, kind_text}
 use Rattle.icescan_json.specs.Texts.{referenced_text, references_text, ids_text, deletes_text, tasks_text, json_text}
+use Rattle.icescan_json.specs.Texts.{plan_text, task_text, task_texts}
+use Rattle.icescan_forms.specs.Pieces.{each_from}
 use Rattle.icescan_forms.proofs.Each.{each_same, items_all, items_each, items_by_place}
 use Rattle.icescan_forms.proofs.Numbered.{number_text_is}
 
 sizes : (x : Entry) (rest : Members) → members_text true (member (codes "file-size-in-bytes")
-    (number_json x.file.file_size) (member (codes "record-count") (number_json x.file.record_count) rest))
+    (number_json x.file.file_size) (member (codes "record-count") (number_json x.file.record_count)
+    (member (codes "sequence-number") (count_json x.sequence_number) rest)))
     ≡ file_sizes x ++ members_text true rest
 unfolding file_sizes escape_byte
 sizes x rest = rw (number_text_is x.file.file_size, number_text_is x.file.record_count) (simp append_assoc)
@@ -63,7 +66,8 @@ file_is : (types : List SpecTypes) (x : Entry) (rest : Members) → compact_text
 unfolding file_members file_head file_text
 file_is types x rest =
     let last = member (codes "file-size-in-bytes") (number_json x.file.file_size)
-    (member (codes "record-count") (number_json x.file.record_count) rest) in
+    (member (codes "record-count") (number_json x.file.record_count)
+    (member (codes "sequence-number") (count_json x.sequence_number) rest)) in
     let behind = member (codes "spec-id") (number_json x.spec_id)
     (member (codes "partition") (array (cells_json (types_of types x.spec_id) x.file.tuple)) last) in
     head x.file.content x.file.path (format_name x) behind
@@ -94,26 +98,40 @@ delete_is types x = file_is types x _ ∙ ap (λ l. file_text types x ++ l) (kin
 pub data_is : (types : List SpecTypes) (x : Entry) → compact_text (data_json types x) ≡ file_text types x ++ 125 ∷ []
 data_is types x = file_is types x no_members
 
-references_is : (ns : List ℕ) → members_text true (references ns) ≡ references_text ns ++ 125 ∷ []
+references_is : (ns : List ℕ) (rest : Members) → members_text true (references ns rest)
+    ≡ references_text ns ++ members_text true rest
 unfolding escape_byte
-references_is [] = refl
-references_is (n ∷ ns) = rw (items_each (λ i. number (unsigned i)) 0 (n ∷ ns)) (simp append_assoc)
+references_is [] rest = refl
+references_is (n ∷ ns) rest = rw (items_each (λ i. number (unsigned i)) 0 (n ∷ ns)) (simp append_assoc)
 
-pub task_is : (types : List SpecTypes) (x : Entry) (places : LinePlaces) → compact_text (task_json types x places)
-    ≡ codes "{\"data-file\":" ++ (compact_text (data_json types x)
-    ++ (references_text (places.positions ++ places.equalities) ++ codes "}"))
+task_is : (types : List SpecTypes) (residual : Data) (x : Entry) (places : LinePlaces)
+    → compact_text (task_json types residual x places) ≡ task_text types (compact_text residual) x places
 unfolding task_json escape_byte
-task_is types x places = rw (references_is (places.positions ++ places.equalities)) refl
+task_is types residual x places =
+    rw (references_is (places.positions ++ places.equalities) (member (codes "residual-filter") residual no_members))
+    refl
+
+tasks_are : (types : List SpecTypes) (residual : Data) (n : ℕ) (xs : List Entry) (ps : List LinePlaces)
+    → each_from (λ _ d. compact_text d) n (tasks_json types residual xs ps)
+    ≡ each_from (λ _ t. t) n (task_texts types (compact_text residual) xs ps)
+tasks_are types residual n [] ps = refl
+tasks_are types residual n (x ∷ xs) [] = refl
+tasks_are types residual n (x ∷ xs) (p ∷ ps) =
+    rw (task_is types residual x p, tasks_are types residual (suc n) xs ps) refl
 
 regroup : (d m t : List ℕ) → ((d ++ 93 ∷ []) ++ (m ++ ((t ++ 93 ∷ []) ++ 125 ∷ []))) ++ 10 ∷ []
     ≡ d ++ (93 ∷ (m ++ (t ++ 93 ∷ 125 ∷ 10 ∷ [])))
 regroup d m t = simp append_assoc
 
-pub plan_is : (types : List SpecTypes) (p : PlanPlaces) → json_text types p
-    ≡ codes "{\"status\":\"completed\",\"delete-files\":[" ++ (deletes_text types p.deletes
-    ++ (codes "],\"file-scan-tasks\":[" ++ (tasks_text types p ++ codes "]}\n")))
+pub plan_is : (types : List SpecTypes) (residual : Data) (p : PlanPlaces)
+    → json_text types residual p ≡ plan_text types (compact_text residual) p
 unfolding escape_byte
-plan_is types p =
-    rw (items_each (delete_json types) 0 p.deletes, items_all 0 (tasks_json types p.files p.places))
+plan_is types residual p =
+    rw (
+      items_each (delete_json types) 0 p.deletes,
+      items_all 0 (tasks_json types residual p.files p.places),
+      tasks_are types residual 0 p.files p.places,
+    )
     (ap (λ t. codes "{\"status\":\"completed\",\"delete-files\":[" ++ t)
-    (regroup (deletes_text types p.deletes) (codes ",\"file-scan-tasks\":[") (tasks_text types p)))
+    (regroup (deletes_text types p.deletes) (codes ",\"file-scan-tasks\":[")
+    (tasks_text types (compact_text residual) p)))

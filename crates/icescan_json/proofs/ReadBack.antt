@@ -1,7 +1,6 @@
 -- What is read of the text of a value that has no float and whose numbers fit 64 bits.
-use Rattle.std.proofs.Common.{◌≡◌, suc, ◌^◌, ◌<◌, ◌≤◌, pos, negsuc, [], ◌++◌}
+use Rattle.std.proofs.Common.{◌≡◌, suc, ◌≤◌, pos, negsuc, [], ◌++◌}
 use Rattle.std.proofs.Common.{Some, option_map, option_and_then, refl, sym, ap, ◌∙◌, arith, append-nil}
-use Rattle.std.specs.Prelude.{⊤}
 use Rattle.json.specs.Lex.{tokens}
 use Rattle.json.specs.Json as json
 use Rattle.json.specs.Tree as tree
@@ -16,30 +15,7 @@ use Rattle.serde_json.specs.Read.{read, number_of, of_json, of_items, of_members
 use Rattle.serde_json.specs.Written.{number_text, outline, items_outline, members_outline, compact_text}
 use Rattle.serde_json.proofs.Numbers.{number_of-decimal, number_of-negative}
 use Rattle.serde_json.proofs.Texts.{print-outline}
-use Rattle.icescan_json.specs.Told.{by_key, items_by_key, members_by_key}
-
-abbrev pub FitsNum : Num → Type 0
-FitsNum (unsigned n) = n < 2 ^ 64
-FitsNum (negative (pos n)) = ⊥
-FitsNum (negative (negsuc n)) = n < 2 ^ 63
-FitsNum (float x) = ⊥
-
-abbrev mutual
-  pub Fits : Data → Type 0
-  Fits null = ⊤
-  Fits (boolean truth) = ⊤
-  Fits (number n) = FitsNum n
-  Fits (string s) = ⊤
-  Fits (array ds) = FitsItems ds
-  Fits (object ms) = FitsMembers ms
-
-  pub FitsItems : Items → Type 0
-  FitsItems no_items = ⊤
-  FitsItems (item d ds) = Fits d × FitsItems ds
-
-  pub FitsMembers : Members → Type 0
-  FitsMembers no_members = ⊤
-  FitsMembers (member key d ms) = Fits d × FitsMembers ms
+use Rattle.icescan_json.specs.Told.{by_key, items_by_key, members_by_key, Fits, FitsItems, FitsMembers, FitsNum}
 
 number_is : (n : Num) → FitsNum n → IsNumber (number_text n)
 number_is (unsigned n) h = IsNumber-decimal n h

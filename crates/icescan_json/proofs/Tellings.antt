@@ -4,7 +4,7 @@ use Rattle.std.proofs.Common.{Option, Some, None, option_map, option_and_then, r
 use Rattle.std.specs.Prelude.{codes}
 use Rattle.std.specs.List.{AllByRecursion}
 use Rattle.std.proofs.lemmas.Grind.{flat_map-append}
-use Rattle.serde_json.specs.Data.{string, array, object, number, unsigned, Items, Members, no_members, member}
+use Rattle.serde_json.specs.Data.{Data, string, array, object, number, unsigned, Items, Members, no_members, member}
 use Rattle.serde_json.specs.Find.{get, get_item}
 use Rattle.serde_json.specs.View.{items_of}
 use Rattle.ice_value.specs.declared.file_content.FileContent.{FileContent}
@@ -18,7 +18,7 @@ use Rattle.icescan_json.specs.PlanJson.{content_name, member_if, file_members, f
 use Rattle.icescan_json.specs.PlanJson.{data_json, references}
 use Rattle.icescan_json.specs.PlanJson.{task_json, tasks_json, plan_json}
 use Rattle.icescan_json.specs.Types.{types_of}
-use Rattle.icescan_forms.specs.Objects.{number_json}
+use Rattle.icescan_forms.specs.Objects.{count_json, number_json}
 use Rattle.icescan_json.specs.Values.{cells_json}
 use Rattle.icescan_json.specs.Told.{by_key, items_by_key, each_item, named_in, path_in, path_of, paths_of, task_told}
 use Rattle.icescan_json.specs.Told.{told}
@@ -32,7 +32,8 @@ file_with format types x rest = member (codes "content") (string (content_name x
     (member (codes "spec-id") (number_json x.spec_id)
     (member (codes "partition") (array (cells_json (types_of types x.spec_id) x.file.tuple))
     (member (codes "file-size-in-bytes") (number_json x.file.file_size)
-    (member (codes "record-count") (number_json x.file.record_count) rest))))))
+    (member (codes "record-count") (number_json x.file.record_count)
+    (member (codes "sequence-number") (count_json x.sequence_number) rest)))))))
 
 abbrev HasPath : Option (List ℕ) → List SpecTypes → Entry → Members → Type 0
 HasPath format types x rest = path_in (by_key (object (file_with format types x rest))) ≡ Some (path_of x)
@@ -92,48 +93,58 @@ pub within_both : (k : ℕ) (ps es : List ℕ) → AreWithin k ps → AreWithin 
 within_both k [] es a b = b
 within_both k (p ∷ ps) es a b = (a.0, within_both k ps es a.1 b)
 
--- the references of a task
-pub referred : (types : List SpecTypes) (x : Entry) (places : LinePlaces)
-    → items_in (get (codes "delete-file-references")
-    (by_key (task_json types x places))) ≡ numbers_of (places.positions ++ places.equalities)
-unfolding task_json
-referred types x places = go (places.positions ++ places.equalities) where
-  go : (ns : List ℕ) → items_in (get (codes "delete-file-references")
-      (by_key (object (member (codes "data-file") (data_json types x) (references ns))))) ≡ numbers_of ns
-  go [] = refl
-  go (n ∷ ns) = refl
+module _ (types : List SpecTypes) (residual : Data) (x : Entry) (places : LinePlaces) where
+  abbrev with_references : List ℕ → Data
+  with_references ns = by_key (object (member (codes "data-file") (data_json types x)
+      (references ns (member (codes "residual-filter") residual no_members))))
 
-pub task_file : (types : List SpecTypes) (x : Entry) (places : LinePlaces) → get (codes "data-file")
-    (by_key (task_json types x places)) ≡ Some (by_key (data_json types x))
-unfolding task_json
-task_file types x places = go (places.positions ++ places.equalities) where
-  go : (ns : List ℕ) → get (codes "data-file") (by_key (object (member (codes "data-file") (data_json types x)
-      (references ns)))) ≡ Some (by_key (data_json types x))
-  go [] = refl
-  go (n ∷ ns) = refl
+  -- the references of a task
+  pub referred : items_in (get (codes "delete-file-references") (by_key (task_json types residual x places)))
+      ≡ numbers_of (places.positions ++ places.equalities)
+  unfolding task_json
+  referred = go (places.positions ++ places.equalities) where
+    go : (ns : List ℕ) → items_in (get (codes "delete-file-references") (with_references ns)) ≡ numbers_of ns
+    go [] = refl
+    go (n ∷ ns) = refl
 
-task_says : (types : List SpecTypes) (ds : List Entry) (x : Entry) (places : LinePlaces)
-    → IsLineWithin (length ds) places → task_told (deletes_of types ds) (by_key (task_json types x places))
+  pub task_file : get (codes "data-file") (by_key (task_json types residual x places))
+      ≡ Some (by_key (data_json types x))
+  unfolding task_json
+  task_file = go (places.positions ++ places.equalities) where
+    go : (ns : List ℕ) → get (codes "data-file") (with_references ns) ≡ Some (by_key (data_json types x))
+    go [] = refl
+    go (n ∷ ns) = refl
+
+  pub task_residual : get (codes "residual-filter") (by_key (task_json types residual x places))
+      ≡ Some (by_key residual)
+  unfolding task_json
+  task_residual = go (places.positions ++ places.equalities) where
+    go : (ns : List ℕ) → get (codes "residual-filter") (with_references ns) ≡ Some (by_key residual)
+    go [] = refl
+    go (n ∷ ns) = refl
+
+task_says : (types : List SpecTypes) (residual : Data) (ds : List Entry) (x : Entry) (places : LinePlaces)
+    → IsLineWithin (length ds) places → task_told (deletes_of types ds) (by_key (task_json types residual x places))
     ≡ Some (paths_of (line_at ds x places))
-task_says types ds x places within =
+task_says types residual ds x places within =
     rw (
-      task_file types x places,
-      referred types x places,
+      task_file types residual x places,
+      referred types residual x places,
       data_path types x,
       all_named types ds (places.positions ++ places.equalities)
           (within_both (length ds) places.positions places.equalities within.0 within.1),
       flat_map-append,
     ) refl
 
-tasks_say : (types : List SpecTypes) (ds : List Entry) (xs : List Entry) (ps : List LinePlaces)
+tasks_say : (types : List SpecTypes) (residual : Data) (ds : List Entry) (xs : List Entry) (ps : List LinePlaces)
     → AllByRecursion (IsLineWithin (length ds)) ps
-    → each_item (task_told (deletes_of types ds)) (items_by_key (items_of (tasks_json types xs ps)))
+    → each_item (task_told (deletes_of types ds)) (items_by_key (items_of (tasks_json types residual xs ps)))
     ≡ Some (map paths_of (lines_at ds xs ps))
-tasks_say types ds [] ps within = refl
-tasks_say types ds (x ∷ xs) [] within = refl
-tasks_say types ds (x ∷ xs) (p ∷ ps) within =
-    rw (task_says types ds x p within.0, tasks_say types ds xs ps within.1) refl
+tasks_say types residual ds [] ps within = refl
+tasks_say types residual ds (x ∷ xs) [] within = refl
+tasks_say types residual ds (x ∷ xs) (p ∷ ps) within =
+    rw (task_says types residual ds x p within.0, tasks_say types residual ds xs ps within.1) refl
 
-pub plan_says : (types : List SpecTypes) (p : PlanPlaces) → ArePlaced p → told (by_key (plan_json types p))
-    ≡ Some (map paths_of (plan_of p))
-plan_says types p placed = tasks_say types p.deletes p.files p.places placed.within
+pub plan_says : (types : List SpecTypes) (residual : Data) (p : PlanPlaces) → ArePlaced p
+    → told (by_key (plan_json types residual p)) ≡ Some (map paths_of (plan_of p))
+plan_says types residual p placed = tasks_say types residual p.deletes p.files p.places placed.within

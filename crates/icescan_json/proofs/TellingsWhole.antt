@@ -26,12 +26,12 @@ use Rattle.icescan_json.specs.Dates.{time_text}
 use Rattle.icescan_json.specs.PlanJson.{content_name, member_if, file_members, format_name, kind_members, delete_json}
 use Rattle.icescan_json.specs.PlanJson.{data_json, task_json, tasks_json, plan_json}
 use Rattle.icescan_json.specs.Types.{types_of}
-use Rattle.icescan_forms.specs.Objects.{number_json}
+use Rattle.icescan_forms.specs.Objects.{count_json, number_json}
 use Rattle.icescan_json.specs.Values.{time_json, whole_json, bytes_json, cell_json, cells_json, type_at}
 use Rattle.icescan_json.specs.Told.{by_key, items_by_key, each_item}
 use Rattle.icescan_json.specs.ToldWhole.{ToldFile, number_in, file_in, delete_in, task_in, told_whole}
-use Rattle.icescan_json.specs.ToldWhole.{content_named, file_as, delete_of, files_of}
-use Rattle.icescan_json.proofs.Tellings.{deletes_of, numbers_of, within_both, referred, task_file}
+use Rattle.icescan_json.specs.ToldWhole.{content_named, file_as, delete_of, task_of}
+use Rattle.icescan_json.proofs.Tellings.{deletes_of, numbers_of, within_both, referred, task_file, task_residual}
 
 -- ---- partition values have no objects, so that reading leaves them as they are
 
@@ -126,7 +126,8 @@ file_with format types x rest = member (codes "content") (string (content_name x
     (member (codes "spec-id") (number_json x.spec_id)
     (member (codes "partition") (array (cells_json (types_of types x.spec_id) x.file.tuple))
     (member (codes "file-size-in-bytes") (number_json x.file.file_size)
-    (member (codes "record-count") (number_json x.file.record_count) rest))))))
+    (member (codes "record-count") (number_json x.file.record_count)
+    (member (codes "sequence-number") (count_json x.sequence_number) rest)))))))
 
 -- what is read of it, where these ids and this name are read of the rest
 abbrev read_with : Option (List ℕ) → Option (List ℤ) → Option (List ℕ) → List SpecTypes → Entry → ToldFile
@@ -138,6 +139,7 @@ read_with format ids path types x = record {
   partition = items_by_key (cells_json (types_of types x.spec_id) x.file.tuple);
   file_size = number_in (number_json x.file.file_size);
   record_count = number_in (number_json x.file.record_count);
+  sequence_number = Some (pos x.sequence_number);
   equality_ids = ids;
   referenced = path;
 }
@@ -174,6 +176,7 @@ told_same : (format path : Option (List ℕ)) (ids : Option (List ℤ)) (types :
       partition = cells_json (types_of types x.spec_id) x.file.tuple;
       file_size = Some x.file.file_size;
       record_count = Some x.file.record_count;
+      sequence_number = Some (pos x.sequence_number);
       equality_ids = ids;
       referenced = path;
     }
@@ -223,28 +226,29 @@ all_named types ds (n ∷ ns) h =
     let found = named types ds n h.0 in
     rw (found.2, all_named types ds ns h.1, found.1) refl
 
-task_told : (types : List SpecTypes) (ds : List Entry) (x : Entry) (places : LinePlaces)
-    → IsLineWithin (length ds) places → task_in (deletes_of types ds) (by_key (task_json types x places))
-    ≡ Some (files_of types (line_at ds x places))
-task_told types ds x places within =
+task_told : (types : List SpecTypes) (residual : Data) (ds : List Entry) (x : Entry) (places : LinePlaces)
+    → IsLineWithin (length ds) places → task_in (deletes_of types ds) (by_key (task_json types residual x places))
+    ≡ Some (task_of types residual (line_at ds x places))
+task_told types residual ds x places within =
     rw (
-      task_file types x places,
-      referred types x places,
+      task_file types residual x places,
+      referred types residual x places,
+      task_residual types residual x places,
       data_told types x,
       all_named types ds (places.positions ++ places.equalities)
           (within_both (length ds) places.positions places.equalities within.0 within.1),
       flat_map-append,
     ) refl
 
-tasks_told : (types : List SpecTypes) (ds : List Entry) (xs : List Entry) (ps : List LinePlaces)
+tasks_told : (types : List SpecTypes) (residual : Data) (ds : List Entry) (xs : List Entry) (ps : List LinePlaces)
     → AllByRecursion (IsLineWithin (length ds)) ps
-    → each_item (task_in (deletes_of types ds)) (items_by_key (items_of (tasks_json types xs ps)))
-    ≡ Some (map (files_of types) (lines_at ds xs ps))
-tasks_told types ds [] ps within = refl
-tasks_told types ds (x ∷ xs) [] within = refl
-tasks_told types ds (x ∷ xs) (p ∷ ps) within =
-    rw (task_told types ds x p within.0, tasks_told types ds xs ps within.1) refl
+    → each_item (task_in (deletes_of types ds)) (items_by_key (items_of (tasks_json types residual xs ps)))
+    ≡ Some (map (task_of types residual) (lines_at ds xs ps))
+tasks_told types residual ds [] ps within = refl
+tasks_told types residual ds (x ∷ xs) [] within = refl
+tasks_told types residual ds (x ∷ xs) (p ∷ ps) within =
+    rw (task_told types residual ds x p within.0, tasks_told types residual ds xs ps within.1) refl
 
-pub whole_told : (types : List SpecTypes) (p : PlanPlaces) → ArePlaced p → told_whole (by_key (plan_json types p))
-    ≡ Some (map (files_of types) (plan_of p))
-whole_told types p placed = tasks_told types p.deletes p.files p.places placed.within
+pub whole_told : (types : List SpecTypes) (residual : Data) (p : PlanPlaces) → ArePlaced p
+    → told_whole (by_key (plan_json types residual p)) ≡ Some (map (task_of types residual) (plan_of p))
+whole_told types residual p placed = tasks_told types residual p.deletes p.files p.places placed.within

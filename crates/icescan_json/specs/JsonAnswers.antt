@@ -1,9 +1,10 @@
 -- Plans that are asked for, as JSON. The plan is the one that is answered as text; beside it stand the types of the
--- partition specs that it was asked under, by which the values of partitions are written.
+-- partition specs that it was asked under, by which the values of partitions are written, and the filter.
 use Rattle.std.specs.Prelude.{◌≡◌, ℕ, List, [], ◌∷◌, ◌++◌, map, Option, Some, Result, Ok, OnOk, IfErr, IsErrOf}
 use Rattle.std.specs.Prelude.{option_and_then}
 use Rattle.contract_words.specs.Outcome.{◌>>=◌}
 use Rattle.serde_json.specs.Read.{read}
+use Rattle.icescan_json.specs.Expressions.{asked_text, every_row_text}
 use Rattle.icescan_json.specs.Texts.{IsJsonOf}
 use Rattle.icescan_json.specs.Told.{paths_of, told}
 use Rattle.icescan_json.specs.Types.{spec_types}
@@ -25,12 +26,13 @@ use Rattle.icescan_text.specs.declared.request.Request.{Request}
 
 -- ---- what is answered
 
--- the plan that a request asks for, with the types of the table's specs, or its first refusal
+-- the plan that a request asks for, with the types of the table's specs and the request's filter, or its first refusal
 unfoldable pub typed_answer_by : Ending → World → List ℕ → Request → Result TypedPlan RunFault
 typed_answer_by ending world metadata request = do
   selection ← selected metadata request
   plan ← answer_by ending world metadata request
-  Ok (record { types = map spec_types selection.specs; plan = plan })
+  residual ← asked_text metadata request
+  Ok (record { types = map spec_types selection.specs; residual = residual; plan = plan })
 
 -- the same of the metadata in the file at a path, by so many workers; their number comes before all else
 unfoldable pub typed_answer_at : Ending → World → List ℕ → Request → ℕ → Result TypedPlan RunFault
@@ -41,7 +43,7 @@ typed_answer_at ending world path request workers =
 unfoldable pub typed_list_answer : World → List ℕ → Result TypedPlan RunFault
 typed_list_answer world list = do
   plan ← list_answer world list
-  Ok (record { types = []; plan = plan })
+  Ok (record { types = []; residual = every_row_text; plan = plan })
 
 -- the plan of an answer, or its refusal
 abbrev pub plan_answered : Result TypedPlan RunFault → Result (List OwnedLine) RunFault
@@ -53,20 +55,22 @@ pub record IsTypedOfGiven (gives : Giving) (metadata : List ℕ) (request : Requ
   pub selection : Selection
   pub asked : selected metadata request ≡ Ok selection
   pub types_are : typed.types ≡ map spec_types selection.specs
+  pub residual_is : asked_text metadata request ≡ Ok typed.residual
 
 -- the same of the metadata that a read of a path gave
 abbrev pub IsTypedOfGivenAt : Giving → List ℕ → Request → TypedPlan → Type 0
 IsTypedOfGivenAt gives path request typed = (metadata : List ℕ) × gives path (Some metadata)
     × IsTypedOfGiven gives metadata request typed
 
--- the plan of the manifest list at a path, of bytes that reads gave; no types are known
+-- the plan of the manifest list at a path, of bytes that reads gave; no types are known, and no filter is asked
 abbrev pub IsTypedListOfGiven : Giving → List ℕ → TypedPlan → Type 0
 IsTypedListOfGiven gives list typed = IsListPlanOfGiven gives list typed.plan × (typed.types ≡ [])
+    × (typed.residual ≡ every_row_text)
 
 -- ---- what is written
 
 abbrev pub IsJsonOfPlan : TypedPlan → List ℕ → Type 0
-IsJsonOfPlan typed text = IsJsonOf typed.types typed.plan text
+IsJsonOfPlan typed text = IsJsonOf typed.types typed.residual typed.plan text
 
 -- a JSON of the plan that is answered, or a front of one
 abbrev pub WroteJson : Result TypedPlan RunFault → Option (List ℕ) → Option (List ℕ) → Type 0

@@ -2,6 +2,8 @@ pub mod Dates
 pub mod Decimals
 pub mod Values
 pub mod Types
+pub mod Expressions
+pub mod ExpressionTexts
 pub mod PlanJson
 pub mod Told
 pub mod ToldWhole

@@ -1,5 +1,6 @@
 -- A plan as the answer of the Iceberg REST catalog to a scan that was planned (rest-catalog-open-api.yaml,
--- CompletedPlanningResult). Members without a value are left out, and the others stand in that document's order.
+-- CompletedPlanningResult). Members without a value are left out, and the others stand in that document's order. A file
+-- has one member of our own, its data sequence number, which that document lets stand there.
 use Rattle.std.specs.Prelude.{ℕ, List, [], ◌∷◌, ◌++◌, codes, map, Option, Some, None, option_map}
 use Rattle.serde_json.specs.Data.{Data, string, array, object, number, unsigned, Members, no_members, member}
 use Rattle.serde_json.specs.View.{items_of}
@@ -12,7 +13,7 @@ use Rattle.ice_state.specs.PlaceLists.{LinePlaces}
 use Rattle.ice_state.specs.PlacedFiles.{PlanPlaces}
 use Rattle.icescan_json.specs.Types.{types_of}
 use Rattle.icescan_json.specs.declared.types.SpecTypes.{SpecTypes}
-use Rattle.icescan_forms.specs.Objects.{number_json}
+use Rattle.icescan_forms.specs.Objects.{count_json, number_json}
 use Rattle.icescan_json.specs.Values.{cells_json}
 
 -- a member that is left out where there is no value
@@ -38,7 +39,8 @@ file_members types x rest =
     (member (codes "spec-id") (number_json x.spec_id)
     (member (codes "partition") (array (cells_json (types_of types x.spec_id) x.file.tuple))
     (member (codes "file-size-in-bytes") (number_json x.file.file_size)
-    (member (codes "record-count") (number_json x.file.record_count) rest))))))
+    (member (codes "record-count") (number_json x.file.record_count)
+    (member (codes "sequence-number") (count_json x.sequence_number) rest)))))))
 
 -- what delete files have of their kind: the ids of the columns, or the data file that is named
 abbrev pub kind_members : DataFile → FileContent → Members
@@ -55,24 +57,25 @@ abbrev pub data_json : List SpecTypes → Entry → Data
 data_json types x = object (file_members types x no_members)
 
 -- the places, from 0, of a task's delete files in the list of delete files; left out where there are none
-abbrev pub references : List ℕ → Members
-references [] = no_members
-references (n ∷ ns) = member (codes "delete-file-references")
-    (array (items_of (map (λ i. number (unsigned i)) (n ∷ ns)))) no_members
+abbrev pub references : List ℕ → Members → Members
+references [] rest = rest
+references (n ∷ ns) rest = member (codes "delete-file-references")
+    (array (items_of (map (λ i. number (unsigned i)) (n ∷ ns)))) rest
 
-unfoldable pub task_json : List SpecTypes → Entry → LinePlaces → Data
-task_json types x places = object (member (codes "data-file") (data_json types x)
-    (references (places.positions ++ places.equalities)))
+-- a data file, its delete files, and the filter that its rows are still to meet
+unfoldable pub task_json : List SpecTypes → Data → Entry → LinePlaces → Data
+task_json types residual x places = object (member (codes "data-file") (data_json types x)
+    (references (places.positions ++ places.equalities) (member (codes "residual-filter") residual no_members)))
 
 -- a task for each data file
-abbrev pub tasks_json : List SpecTypes → List Entry → List LinePlaces → List Data
-tasks_json types [] places = []
-tasks_json types (x ∷ xs) [] = []
-tasks_json types (x ∷ xs) (p ∷ ps) = task_json types x p ∷ tasks_json types xs ps
+abbrev pub tasks_json : List SpecTypes → Data → List Entry → List LinePlaces → List Data
+tasks_json types residual [] places = []
+tasks_json types residual (x ∷ xs) [] = []
+tasks_json types residual (x ∷ xs) (p ∷ ps) = task_json types residual x p ∷ tasks_json types residual xs ps
 
 -- each delete file once, and a task for each data file, both in the order of the plan
-abbrev pub plan_json : List SpecTypes → PlanPlaces → Data
-plan_json types p = object
+abbrev pub plan_json : List SpecTypes → Data → PlanPlaces → Data
+plan_json types residual p = object
     (member (codes "status") (string (codes "completed"))
     (member (codes "delete-files") (array (items_of (map (delete_json types) p.deletes)))
-    (member (codes "file-scan-tasks") (array (items_of (tasks_json types p.files p.places))) no_members)))
+    (member (codes "file-scan-tasks") (array (items_of (tasks_json types residual p.files p.places))) no_members)))

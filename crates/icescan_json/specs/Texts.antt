@@ -2,6 +2,7 @@
 use Rattle.std.specs.Prelude.{◌≡◌, ℕ, List, [], ◌∷◌, ◌++◌, codes, Option, Some, None}
 use Rattle.std.specs.Fmt.{decimal, signed_decimal}
 use Rattle.json.specs.Print.{quoted}
+use Rattle.serde_json.specs.Data.{Data}
 use Rattle.serde_json.specs.Written.{compact_text}
 use Rattle.ice_value.specs.declared.cell.Cell.{Cell}
 use Rattle.ice_value.specs.declared.column_type.ColumnType.{ColumnType}
@@ -10,24 +11,28 @@ use Rattle.ice_value.specs.declared.file_content.FileContent.TheVariants as cont
 use Rattle.ice_manifest_reading.specs.declared.data_file.DataFile.{DataFile}
 use Rattle.ice_manifest_reading.specs.declared.entry.Entry.{Entry}
 use Rattle.ice_state.specs.Lines.{OwnedLine}
+use Rattle.ice_state.specs.PlaceLists.{LinePlaces}
 use Rattle.ice_state.specs.PlacedFiles.{plan_of, ArePlaced, PlanPlaces}
 use Rattle.icescan_forms.specs.Pieces.{each_from}
-use Rattle.icescan_json.specs.PlanJson.{content_name, format_name, delete_json, plan_json, tasks_json}
+use Rattle.icescan_json.specs.PlanJson.{content_name, data_json, format_name, delete_json, plan_json}
 use Rattle.icescan_json.specs.Types.{types_of}
 use Rattle.icescan_json.specs.declared.types.SpecTypes.{SpecTypes}
 use Rattle.icescan_json.specs.Values.{cell_json, type_at}
 
 -- one line: the value as serde_json writes it without spaces
-abbrev pub json_text : List SpecTypes → PlanPlaces → List ℕ
-json_text types p = compact_text (plan_json types p) ++ 10 ∷ []
+abbrev pub json_text : List SpecTypes → Data → PlanPlaces → List ℕ
+json_text types residual p = compact_text (plan_json types residual p) ++ 10 ∷ []
 
--- the text says this plan: its files stand, each once, at some places; where no data file stands, no delete file does
-pub record IsJsonOf (types : List SpecTypes) (plan : List OwnedLine) (text : List ℕ) : Type 0 where
+-- The text says this plan, and that its rows are still to meet the filter whose JSON has this text. The plan's files
+-- stand, each once, at some places; where no data file stands, no delete file does.
+pub record IsJsonOf (types : List SpecTypes) (residual : List ℕ) (plan : List OwnedLine) (text : List ℕ) : Type 0 where
+  pub filter : Data
+  pub filter_is : residual ≡ compact_text filter
   pub files : PlanPlaces
   pub plan_is : plan_of files ≡ plan
   pub placed : ArePlaced files
   pub needed : files.files ≡ [] → files.deletes ≡ []
-  pub text_is : text ≡ json_text types files
+  pub text_is : text ≡ json_text types filter files
 
 -- ---- pieces of it
 
@@ -57,7 +62,8 @@ file_partition types x = codes ",\"spec-id\":" ++ (signed_decimal x.spec_id
 
 unfoldable pub file_sizes : Entry → List ℕ
 file_sizes x = codes ",\"file-size-in-bytes\":" ++ (signed_decimal x.file.file_size
-    ++ (codes ",\"record-count\":" ++ signed_decimal x.file.record_count))
+    ++ (codes ",\"record-count\":" ++ (signed_decimal x.file.record_count
+    ++ (codes ",\"sequence-number\":" ++ decimal x.sequence_number))))
 
 -- a file, but for what its own kind has and the bracket
 unfoldable pub file_text : List SpecTypes → Entry → List ℕ
@@ -83,5 +89,21 @@ references_text (n ∷ ns) = codes ",\"delete-file-references\":["
 abbrev pub deletes_text : List SpecTypes → List Entry → List ℕ
 deletes_text types deletes = each_from (λ _ x. compact_text (delete_json types x)) 0 deletes
 
-abbrev pub tasks_text : List SpecTypes → PlanPlaces → List ℕ
-tasks_text types p = each_from (λ _ d. compact_text d) 0 (tasks_json types p.files p.places)
+-- the text of a task, where this is that of the filter
+abbrev pub task_text : List SpecTypes → List ℕ → Entry → LinePlaces → List ℕ
+task_text types residual x places = codes "{\"data-file\":" ++ (compact_text (data_json types x)
+    ++ (references_text (places.positions ++ places.equalities)
+    ++ (codes ",\"residual-filter\":" ++ (residual ++ codes "}"))))
+
+abbrev pub task_texts : List SpecTypes → List ℕ → List Entry → List LinePlaces → List (List ℕ)
+task_texts types residual [] places = []
+task_texts types residual (x ∷ xs) [] = []
+task_texts types residual (x ∷ xs) (p ∷ ps) = task_text types residual x p ∷ task_texts types residual xs ps
+
+abbrev pub tasks_text : List SpecTypes → List ℕ → PlanPlaces → List ℕ
+tasks_text types residual p = each_from (λ _ t. t) 0 (task_texts types residual p.files p.places)
+
+-- the text of the whole, without delete files where no data file stands
+abbrev pub plan_text : List SpecTypes → List ℕ → PlanPlaces → List ℕ
+plan_text types residual p = codes "{\"status\":\"completed\",\"delete-files\":[" ++ (deletes_text types p.deletes
+    ++ (codes "],\"file-scan-tasks\":[" ++ (tasks_text types residual p ++ codes "]}\n")))

@@ -1,9 +1,10 @@
 -- What a client reads off a plan's JSON: the path of each data file, and the paths of the delete files that its
 -- references name.
-use Rattle.std.specs.Prelude.{◌≡◌, ℕ, ◌<◌, ◌^◌, true, List, [], ◌∷◌, ◌++◌, codes, length, map, Option, Some, None}
+use Rattle.std.specs.Prelude.{◌≡◌, ℕ, ◌<◌, ◌≤◌, ◌^◌, pos, negsuc, true, List, [], ◌∷◌, ◌++◌, codes, length, map, Option, Some, None}
 use Rattle.std.specs.Prelude.{option_map, option_and_then}
 use Rattle.std.specs.List.{AllByRecursion}
-use Rattle.serde_json.specs.Data.{unsigned, Data, null, boolean, number, string, array, object}
+use Rattle.serde_json.specs.Data.{Num, unsigned, negative, float, Data, null, boolean, number, string, array, object}
+use Rattle.serde_json.specs.Data.{depth}
 use Rattle.serde_json.specs.Data.{Items, no_items, item, Members, no_members, member, put}
 use Rattle.serde_json.specs.Find.{get, get_item}
 use Rattle.ice_manifest_reading.specs.declared.entry.Entry.{Entry}
@@ -76,12 +77,42 @@ abbrev mutual
   members_by_key no_members found = found
   members_by_key (member key d ms) found = members_by_key ms (put key (by_key d) found)
 
+-- A value's numbers fit 64 bits, and none is a fraction.
+abbrev pub FitsNum : Num → Type 0
+FitsNum (unsigned n) = n < 2 ^ 64
+FitsNum (negative (pos n)) = ⊥
+FitsNum (negative (negsuc n)) = n < 2 ^ 63
+FitsNum (float x) = ⊥
+
+abbrev mutual
+  pub Fits : Data → Type 0
+  Fits null = Unit {0}
+  Fits (boolean truth) = Unit {0}
+  Fits (number n) = FitsNum n
+  Fits (string s) = Unit {0}
+  Fits (array ds) = FitsItems ds
+  Fits (object ms) = FitsMembers ms
+
+  pub FitsItems : Items → Type 0
+  FitsItems no_items = Unit {0}
+  FitsItems (item d ds) = Fits d × FitsItems ds
+
+  pub FitsMembers : Members → Type 0
+  FitsMembers no_members = Unit {0}
+  FitsMembers (member key d ms) = Fits d × FitsMembers ms
+
+-- A filter can be read where it stands: `serde_json` reads values that nest 127 deep at most, and three stand around it.
+pub record CanBeRead (filter : Data) : Type 0 where
+  pub fits : Fits filter
+  pub shallow : depth filter ≤ 124
+
 -- The numbers of a plan fit 64 bits, as those of the program's entries do by their types.
 abbrev pub FitsCell : Cell → Type 0
 FitsCell (Whole z) = fits_long z ≡ true
 FitsCell _ = Unit {0}
 
 pub record FitsEntry (x : Entry) : Type 0 where
+  pub sequence : x.sequence_number < 2 ^ 64
   pub spec : fits_long x.spec_id ≡ true
   pub size : fits_long x.file.file_size ≡ true
   pub rows : fits_long x.file.record_count ≡ true

@@ -14,7 +14,7 @@ use Rattle.ice_state.specs.Lines.{OwnedLine}
 use Rattle.icescan_json.specs.declared.types.SpecTypes.{SpecTypes}
 use Rattle.icescan_json.specs.Types.{types_of}
 use Rattle.icescan_json.specs.Values.{cells_json}
-use Rattle.icescan_json.specs.Told.{text_in, items_in, each_item}
+use Rattle.icescan_json.specs.Told.{by_key, text_in, items_in, each_item}
 
 -- what is said of a file, each member where it is there and of its kind
 pub record ToldFile : Type 0 where
@@ -26,6 +26,7 @@ pub record ToldFile : Type 0 where
   pub partition : Items
   pub file_size : Option ℤ
   pub record_count : Option ℤ
+  pub sequence_number : Option ℤ
   pub equality_ids : Option (List ℤ)
   pub referenced : Option (List ℕ)
 
@@ -58,6 +59,7 @@ file_in file = record {
   partition = items_in (get (codes "partition") file);
   file_size = number_at (codes "file-size-in-bytes") file;
   record_count = number_at (codes "record-count") file;
+  sequence_number = number_at (codes "sequence-number") file;
   equality_ids = each_item number_in (items_in (get (codes "equality-ids") file));
   referenced = text_at (codes "referenced-data-file") file;
 }
@@ -67,14 +69,20 @@ abbrev pub delete_in : Items → Data → Option ToldFile
 delete_in deletes (number (unsigned n)) = option_map file_in (get_item n deletes)
 delete_in deletes _ = None
 
--- a task's data file, and the delete files that its references name
-abbrev pub task_in : Items → Data → Option (ToldFile × List ToldFile)
-task_in deletes task = option_and_then (λ file. option_map (λ named. (file_in file, named))
+-- what is said of a task: its data file, the delete files that its references name, and its filter, where it has one
+pub record ToldTask : Type 0 where
+  pub file : ToldFile
+  pub deletes : List ToldFile
+  pub residual : Option Data
+
+abbrev pub task_in : Items → Data → Option ToldTask
+task_in deletes task = option_and_then (λ file. option_map (λ named.
+    record { file = file_in file; deletes = named; residual = get (codes "residual-filter") task })
     (each_item (delete_in deletes) (items_in (get (codes "delete-file-references") task))))
     (get (codes "data-file") task)
 
 -- what the whole answer says
-abbrev pub told_whole : Data → Option (List (ToldFile × List ToldFile))
+abbrev pub told_whole : Data → Option (List ToldTask)
 told_whole plan = each_item (task_in (items_in (get (codes "delete-files") plan)))
     (items_in (get (codes "file-scan-tasks") plan))
 
@@ -100,6 +108,7 @@ file_as kind types x = record {
   partition = cells_json (types_of types x.spec_id) x.file.tuple;
   file_size = Some x.file.file_size;
   record_count = Some x.file.record_count;
+  sequence_number = Some (pos x.sequence_number);
   equality_ids = Some (ids_of x.file kind);
   referenced = referenced_of x.file kind;
 }
@@ -107,6 +116,10 @@ file_as kind types x = record {
 abbrev pub delete_of : List SpecTypes → Entry → ToldFile
 delete_of types d = file_as d.file.content types d
 
--- a data file, and the delete files that apply to it
-abbrev pub files_of : List SpecTypes → OwnedLine → ToldFile × List ToldFile
-files_of types l = (file_as content.Data types l.file, map (delete_of types) (l.positions ++ l.equalities))
+-- a data file, the delete files that apply to it, and the filter, its members in the order of their keys
+abbrev pub task_of : List SpecTypes → Data → OwnedLine → ToldTask
+task_of types residual l = record {
+  file = file_as content.Data types l.file;
+  deletes = map (delete_of types) (l.positions ++ l.equalities);
+  residual = Some (by_key residual);
+}

@@ -1,7 +1,7 @@
 //! What the answers in JSON tell of plans.
 
 ghost use Rattle.std.specs.Prelude.{◌≡◌, ℕ, List, Ok};
-ghost use Rattle.icescan_json.specs.Told.{HasFittingNumbers};
+ghost use Rattle.icescan_json.specs.Told.{CanBeRead, HasFittingNumbers};
 ghost use Rattle.icescan_json.specs.JsonAnswers.{IsJsonOfPlan, TellsPlan, plan_answered};
 ghost use Rattle.icescan_json.specs.JsonAnswers.{typed_answer_at, typed_list_answer};
 ghost use Rattle.icescan_json.specs.declared.typed.TypedPlan.{TypedPlan};
@@ -22,14 +22,15 @@ pub fn json_answers_are_plans()
         plan_answered (typed_list_answer world list) ≡ list_answer world list }
 {}
 
-/// The JSON of a plan, where the numbers of its files fit 64 bits, tells the plan to a client that reads it; so the
+/// The JSON of a plan, where the numbers of its files fit 64 bits and its filter can be read, tells the plan to a client that reads it; so the
 /// JSON that answers a request tells the plan that the request asks for.
 pub fn json_answers_tell_plans()
     ensures plan { (typed : TypedPlan) (text : List ℕ) (json : IsJsonOfPlan typed text) →
-        HasFittingNumbers json.files → TellsPlan typed.plan text }
+        CanBeRead json.filter → HasFittingNumbers json.files → TellsPlan typed.plan text }
     ensures request { (ending : Ending) (world : World) (path : List ℕ) (request : Request) (workers : ℕ)
         (typed : TypedPlan) (text : List ℕ) (json : IsJsonOfPlan typed text) →
-        typed_answer_at ending world path request workers ≡ Ok typed → HasFittingNumbers json.files →
+        typed_answer_at ending world path request workers ≡ Ok typed → CanBeRead json.filter →
+        HasFittingNumbers json.files →
         (plan : List OwnedLine) × (answer_at ending world path request workers ≡ Ok plan) × TellsPlan plan text }
 {
     json_is_the_plan();

@@ -81,7 +81,7 @@ fn put_file_partition<S: Sink>(
     page.put(sink, b"]")
 }
 
-/// Sends a file's bytes and rows.
+/// Sends a file's bytes, rows and sequence number.
 #[tactic(auto, unfolding(crate::specs::Texts::file_sizes))]
 fn put_file_sizes<S: Sink>(
     page: &mut Page,
@@ -91,7 +91,8 @@ fn put_file_sizes<S: Sink>(
     ensures { Sent S.taken S.may_fail sink.old page.old result sink.new page.new (file_sizes file.now) }
 {
     page.put_named_long(sink, b",\"file-size-in-bytes\":", file.file_size())?;
-    page.put_named_long(sink, b",\"record-count\":", file.record_count())
+    page.put_named_long(sink, b",\"record-count\":", file.record_count())?;
+    page.put_named_number(sink, b",\"sequence-number\":", file.sequence_number().get())
 }
 
 /// Sends a file, but for what its own kind has and the bracket.

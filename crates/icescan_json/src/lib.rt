@@ -5,16 +5,20 @@
 mod answers;
 mod dates;
 mod decimals;
+mod expressions;
 mod files;
+mod json_text;
 mod laws;
 mod list_plans;
 mod plan;
+mod residuals;
 mod table_plans;
 mod typed;
 mod types;
 mod values;
 
 pub use answers::{json_answers_are_plans, json_answers_tell_plans};
+pub use expressions::Expression;
 pub use laws::{json_is_the_plan, json_reads_back, json_tells_all};
 pub use list_plans::run_list_plan_json;
 pub use plan::{write_plan_json, write_typed_plan};

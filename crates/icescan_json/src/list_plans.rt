@@ -8,6 +8,7 @@ ghost use Rattle.icescan_requests.specs.ListPlans.{list_reads};
 ghost use Rattle.icescan_requests.specs.Plans.{OnRefusal};
 ghost use Rattle.ice_state.specs.Contents.{World};
 
+use crate::expressions::Expression;
 use crate::typed::{TypedPlan, write_json};
 use contract_words::Items;
 use ice_desk::Files;
@@ -18,7 +19,7 @@ use std::alloc::Global;
 
 /// Writes the plan of the manifest list at a path as JSON, in one line: the answer of an Iceberg REST catalog to a scan
 /// that was planned. The table is taken as one without partitions; as no types of partition values are known, each is
-/// written as what it is.
+/// written as what it is. The filter of each task is `true`.
 ///
 /// The refusals, and their order, are those of `icescan_requests::run_list_plan`. After any refusal but `Write` nothing
 /// was written, and after that one a front of the text was.
@@ -45,6 +46,7 @@ pub fn run_list_plan_json<F: Files, W: Sink>(
     let typed = TypedPlan {
         types: Items::new(alloc),
         plan: plan_list(alloc, files, list)?,
+        residual: Expression::every_row(alloc)?,
     };
     write_json(alloc, &typed, output)
 }

@@ -9,15 +9,23 @@ ghost use Rattle.ice_state.specs.Contents.{World};
 ghost use Rattle.icescan_text.specs.Reads.{MayEnd};
 
 use crate::typed::{TypedPlan, write_json};
-use ice_desk::Files;
+use ice_desk::{Files, Gate};
 use icescan_print::Sink;
-use icescan_requests::{plan_table_at, plans_of_true_summaries};
-use icescan_text::{Request, RunFault, Workers};
+use icescan_requests::{plan_table, plans_of_true_summaries};
+use icescan_text::{Request, RunFault, Workers, read_file};
 use std::alloc::Global;
 use std::thread::Threads;
 
-/// The plan that a request asks for, of the table whose metadata is in the file at a path, by so many workers; and the
-/// types of the partition values of the table's specs.
+/// A gate at which no worker is held up, and that nobody watches.
+#[derive(Drop)]
+struct OpenGate;
+
+impl Gate for OpenGate {
+    fn before_take(&self, _worker: usize, _i: usize) {}
+}
+
+/// The plan that a request asks for, of the table whose metadata is in the file at a path, by so many workers; the types
+/// of the partition values of the table's specs; and the filter.
 fn typed_table_at<R: Threads + Sync, F: Files + Sync>(
     rt: &R,
     alloc: Global,
@@ -37,12 +45,15 @@ fn typed_table_at<R: Threads + Sync, F: Files + Sync>(
     ensures workers { IsErrOf result RunFault.Workers → ⊥ }
     ensures given { IfOk result (IsTypedOfGivenAt (F.gives files.now) path.now request.now) }
 {
-    let planned = plan_table_at(rt, alloc, files, path, request, workers)?;
-    Ok(TypedPlan::of(alloc, planned)?)
+    let metadata = read_file(alloc, files, path)?;
+    let bytes = metadata.as_slice();
+    let planned = plan_table(rt, alloc, files, bytes, request, workers, &OpenGate)?;
+    Ok(TypedPlan::of(alloc, planned, bytes, request)?)
 }
 
 /// Writes the plan that a request asks for as JSON, in one line: the answer of an Iceberg REST catalog to a scan that
-/// was planned. The table is the one whose metadata is in the file at a path. So many workers, from 1 to 64, read and
+/// was planned. The table is the one whose metadata is in the file at a path. Each task has the whole filter of the
+/// request, which the rows of its file are still to meet; `true` where there is none. So many workers, from 1 to 64, read and
 /// take the wanted manifests at once, each in a thread of its own where one can be started. The JSON is written by one.
 ///
 /// The refusals and their order are those of `icescan_requests::plan_file`: `Workers` comes before all others, and then

@@ -1,37 +1,50 @@
 //! Plans beside the types of their partition values.
 
-ghost use Rattle.std.specs.Prelude.{◌≡◌, ◌⊎◌, ℕ, List, OnOk, IfOk, IfErr, IsErrOf, map};
+ghost use Rattle.std.specs.Prelude.{◌≡◌, ◌⊎◌, ℕ, List, Ok, OnOk, IfOk, IfErr, IsErrOf, map};
+ghost use Rattle.icescan_json.specs.Expressions.{asked_text};
 ghost use Rattle.icescan_json.specs.JsonAnswers.{IsJsonOfPlan};
 ghost use Rattle.icescan_json.specs.Types.{spec_types};
 ghost use Rattle.icescan_print.specs.Written.{Appends, AppendsFront};
 
+use crate::expressions::Expression;
 use crate::plan::write_typed_plan;
+use crate::residuals::planned_expression;
 use crate::types::{SpecTypes, types_of_specs};
 use contract_words::Items;
 use ice_state::OwnedPlan;
 use icescan_print::Sink;
 use icescan_requests::TablePlan;
-use icescan_text::RunFault;
+use icescan_text::{Request, RunFault};
 use std::alloc::{AllocError, Global};
 
-/// A plan, and the types by which the partition values of its files are written as JSON.
+/// A plan, the types by which the partition values of its files are written as JSON, and the filter that was asked.
 #[derive(Debug, Drop)]
 pub struct TypedPlan {
     /// What is known of the partition specs that it was asked under; of a manifest list alone nothing is.
     pub types: Items<SpecTypes>,
+    /// The filter that was asked for, as an expression: rows of the plan's files are still to meet it.
+    pub residual: Expression,
     /// The plan.
     pub plan: OwnedPlan,
 }
 
 impl TypedPlan {
-    /// The plan of a table, with the types of its specs.
-    pub(crate) fn of(alloc: Global, planned: TablePlan) -> Result<TypedPlan, AllocError>
+    /// The plan that was made of a table's metadata and a request, with the types of the specs and the filter.
+    pub(crate) fn of(
+        alloc: Global,
+        planned: TablePlan,
+        metadata: &[u8],
+        request: &Request,
+    ) -> Result<TypedPlan, AllocError>
         ensures types { IfOk result (λ typed. typed.types ≡ map spec_types planned.specs) }
+        ensures residual { IfOk result (λ typed. asked_text metadata.now request.now ≡ Ok typed.residual) }
         ensures plan { IfOk result (λ typed. typed.plan ≡ planned.plan) }
     {
+        let residual = planned_expression(alloc, metadata, request)?;
         let types = types_of_specs(alloc, planned.specs.as_slice())?;
         Ok(TypedPlan {
             types: Items::from_vec(types),
+            residual,
             plan: planned.plan,
         })
     }
@@ -52,5 +65,11 @@ pub(crate) fn write_json<W: Sink>(
         × AppendsFront (W.taken output.old) (W.taken output.new) text }
     ensures cause { IsErrOf result RunFault.Write → W.may_fail output.old }
 {
-    write_typed_plan(alloc, typed.types.as_slice(), &typed.plan.lines(), output)
+    write_typed_plan(
+        alloc,
+        typed.types.as_slice(),
+        &typed.residual,
+        &typed.plan.lines(),
+        output,
+    )
 }

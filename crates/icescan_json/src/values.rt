@@ -64,7 +64,8 @@ fn put_cell<S: Sink>(
     }
 }
 
-fn put_whole<S: Sink>(
+/// Sends a number as a value of a type.
+pub fn put_whole<S: Sink>(
     page: &mut Page,
     sink: &mut S,
     column_type: Option<ColumnType>,
@@ -143,7 +144,7 @@ fn put_decimal<S: Sink>(
 }
 
 /// Sends the hexadecimal digits of bytes in quotes.
-fn put_hex<S: Sink>(page: &mut Page, sink: &mut S, bytes: &[u8]) -> Result<(), SinkFault>
+pub fn put_hex<S: Sink>(page: &mut Page, sink: &mut S, bytes: &[u8]) -> Result<(), SinkFault>
     ensures { Sent S.taken S.may_fail sink.old page.old result sink.new page.new (quoted (hex_text bytes.now)) }
 {
     page.put(sink, b"\"")?;

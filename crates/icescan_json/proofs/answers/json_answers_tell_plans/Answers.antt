@@ -5,8 +5,8 @@ pub returns-clause-plan : goal.returns-clause-plan
 returns-clause-plan c = tells_plan c.json_is_the_plan.ensures
 
 pub returns-clause-request : goal.returns-clause-request
-returns-clause-request c = λ ending world path request workers typed text json is fitting. (
+returns-clause-request c = λ ending world path request workers typed text json is can fitting. (
   typed.plan,
   asked_plan ending world path request workers typed is,
-  tells_plan c.json_is_the_plan.ensures typed text json fitting,
+  tells_plan c.json_is_the_plan.ensures typed text json can fitting,
 )

@@ -7,6 +7,7 @@ use Rattle.icescan_json.proofs.Tellings.{plan_says}
 use Rattle.icescan_json.proofs.laws.json_is_the_plan.Goals as goal
 
 pub returns : goal.returns
-returns c = λ types p fitting placed.
-    let fits = plan_fits types p fitting placed in
-    ap (option_and_then told) (reads_back (plan_json types p) fits.0 fits.1) ∙ plan_says types p placed
+returns c = λ types residual p can fitting placed.
+    let fits = plan_fits types residual can p fitting placed in
+    ap (option_and_then told) (reads_back (plan_json types residual p) fits.0 fits.1)
+    ∙ plan_says types residual p placed

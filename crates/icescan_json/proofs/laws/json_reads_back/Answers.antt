@@ -4,6 +4,6 @@ use Rattle.icescan_json.proofs.Fitting.{plan_fits}
 use Rattle.icescan_json.proofs.laws.json_reads_back.Goals as goal
 
 pub returns : goal.returns
-returns c = λ types p fitting placed.
-    let fits = plan_fits types p fitting placed in
-    reads_back (plan_json types p) fits.0 fits.1
+returns c = λ types residual p can fitting placed.
+    let fits = plan_fits types residual can p fitting placed in
+    reads_back (plan_json types residual p) fits.0 fits.1

@@ -7,6 +7,7 @@ use Rattle.icescan_json.proofs.TellingsWhole.{whole_told}
 use Rattle.icescan_json.proofs.laws.json_tells_all.Goals as goal
 
 pub returns : goal.returns
-returns c = λ types p fitting placed.
-    let fits = plan_fits types p fitting placed in
-    ap (option_and_then told_whole) (reads_back (plan_json types p) fits.0 fits.1) ∙ whole_told types p placed
+returns c = λ types residual p can fitting placed.
+    let fits = plan_fits types residual can p fitting placed in
+    ap (option_and_then told_whole) (reads_back (plan_json types residual p) fits.0 fits.1)
+    ∙ whole_told types residual p placed

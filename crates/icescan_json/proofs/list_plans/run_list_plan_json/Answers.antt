@@ -26,7 +26,7 @@ returns-clause-answers g c =
     let there = plan_listed world c.args.list.now c.in_ok-plan_list.field-0
     (c.in_ok-plan_list.ensures.found world told) in
     written_json _ c.write_json.result (g.W.Sink.may_fail c.args.output.now) _ _ wrote.all wrote.front
-    _ _ (rw c.new.ensures there) wrote.causes wrote.cause
+    _ _ (rw (c.new.ensures, c.in_ok-every_row.ensures) there) wrote.causes wrote.cause
 
 pub returns-clause-text : goal.returns-clause-text
 returns-clause-text g c =
@@ -35,4 +35,4 @@ returns-clause-text g c =
 
 pub returns-clause-given : goal.returns-clause-given
 returns-clause-given g c =
-    json_that _ _ c.write_json.result _ _ (c.in_ok-plan_list.ensures.given, c.new.ensures) c.write_json.ensures.all
+    json_that _ _ c.write_json.result _ _ (c.in_ok-plan_list.ensures.given, c.new.ensures, c.in_ok-every_row.ensures) c.write_json.ensures.all

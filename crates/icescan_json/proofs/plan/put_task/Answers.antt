@@ -3,34 +3,58 @@ use Rattle.icescan_json.proofs.Tasks.{task_at}
 use Rattle.icescan_json.proofs.plan.put_task.Goals as goal
 
 pub returns-in_err-put : goal.returns-in_err-put
-returns-in_err-put g c = λ d at. rw (task_at c.args.types.now c.args.plan.now.files c.args.plan.now.places c.args.i
-    c.file-file.result
-    c.positions-positions.result.now c.equalities-equalities.result.now d c.file-file.ensures
+returns-in_err-put g c = λ text at. rw (task_at c.args.types.now c.args.residual.now c.args.plan.now.files
+    c.args.plan.now.places c.args.i c.file-file.result
+    c.positions-positions.result.now c.equalities-equalities.result.now text c.file-file.ensures
     c.positions-positions.ensures c.equalities-equalities.ensures at)
     (sent_less _ _ _ _ _ _ _ _ _ _ _ c.from_residual.ensures.0 c.in_err-put.ensures)
 
 pub returns-in_err-put_data_file : goal.returns-in_err-put_data_file
-returns-in_err-put_data_file g c = λ d at. rw (task_at c.args.types.now c.args.plan.now.files c.args.plan.now.places
-    c.args.i c.file-file.result
-    c.positions-positions.result.now c.equalities-equalities.result.now d c.file-file.ensures
+returns-in_err-put_data_file g c = λ text at. rw (task_at c.args.types.now c.args.residual.now c.args.plan.now.files
+    c.args.plan.now.places c.args.i c.file-file.result
+    c.positions-positions.result.now c.equalities-equalities.result.now text c.file-file.ensures
     c.positions-positions.ensures c.equalities-equalities.ensures at)
     (sent_more _ _ _ _ _ _ _ _ _ _ _ _ c.in_ok-put.ensures
     (sent_less _ _ _ _ _ _ _ _ _ _ _ c.from_residual-in_err-put_data_file.ensures.0 c.in_err-put_data_file.ensures))
 
 pub returns-in_err-put_references : goal.returns-in_err-put_references
-returns-in_err-put_references g c = λ d at. rw (task_at c.args.types.now c.args.plan.now.files c.args.plan.now.places
-    c.args.i c.file-file.result
-    c.positions-positions.result.now c.equalities-equalities.result.now d c.file-file.ensures
+returns-in_err-put_references g c = λ text at. rw (task_at c.args.types.now c.args.residual.now c.args.plan.now.files
+    c.args.plan.now.places c.args.i c.file-file.result
+    c.positions-positions.result.now c.equalities-equalities.result.now text c.file-file.ensures
     c.positions-positions.ensures c.equalities-equalities.ensures at)
     (sent_more _ _ _ _ _ _ _ _ _ _ _ _ c.in_ok-put.ensures
     (sent_more _ _ _ _ _ _ _ _ _ _ _ _ c.in_ok-put_data_file.ensures
     (sent_less _ _ _ _ _ _ _ _ _ _ _ c.from_residual-in_err-put_references.ensures.0 c.in_err-put_references.ensures)))
 
-pub returns : goal.returns
-returns g c = λ d at. rw (task_at c.args.types.now c.args.plan.now.files c.args.plan.now.places c.args.i
-    c.file-file.result
-    c.positions-positions.result.now c.equalities-equalities.result.now d c.file-file.ensures
+pub returns-in_err-put-2 : goal.returns-in_err-put-2
+returns-in_err-put-2 g c = λ text at. rw (task_at c.args.types.now c.args.residual.now c.args.plan.now.files
+    c.args.plan.now.places c.args.i c.file-file.result
+    c.positions-positions.result.now c.equalities-equalities.result.now text c.file-file.ensures
     c.positions-positions.ensures c.equalities-equalities.ensures at)
     (sent_more _ _ _ _ _ _ _ _ _ _ _ _ c.in_ok-put.ensures
     (sent_more _ _ _ _ _ _ _ _ _ _ _ _ c.in_ok-put_data_file.ensures
-    (sent_more _ _ _ _ _ _ _ _ _ _ _ _ c.in_ok-put_references.ensures c.put-2.ensures)))
+    (sent_more _ _ _ _ _ _ _ _ _ _ _ _ c.in_ok-put_references.ensures
+    (sent_less _ _ _ _ _ _ _ _ _ _ _ c.from_residual-in_err-put-2.ensures.0 c.in_err-put-2.ensures))))
+
+pub returns-in_err-put-3 : goal.returns-in_err-put-3
+returns-in_err-put-3 g c = λ text at. rw (task_at c.args.types.now c.args.residual.now c.args.plan.now.files
+    c.args.plan.now.places c.args.i c.file-file.result
+    c.positions-positions.result.now c.equalities-equalities.result.now text c.file-file.ensures
+    c.positions-positions.ensures c.equalities-equalities.ensures at)
+    (sent_more _ _ _ _ _ _ _ _ _ _ _ _ c.in_ok-put.ensures
+    (sent_more _ _ _ _ _ _ _ _ _ _ _ _ c.in_ok-put_data_file.ensures
+    (sent_more _ _ _ _ _ _ _ _ _ _ _ _ c.in_ok-put_references.ensures
+    (sent_more _ _ _ _ _ _ _ _ _ _ _ _ c.in_ok-put-2.ensures
+    (sent_less _ _ _ _ _ _ _ _ _ _ _ c.from_residual-in_err-put-3.ensures.0 c.in_err-put-3.ensures)))))
+
+pub returns : goal.returns
+returns g c = λ text at. rw (task_at c.args.types.now c.args.residual.now c.args.plan.now.files
+    c.args.plan.now.places c.args.i c.file-file.result
+    c.positions-positions.result.now c.equalities-equalities.result.now text c.file-file.ensures
+    c.positions-positions.ensures c.equalities-equalities.ensures at)
+    (sent_more _ _ _ _ _ _ _ _ _ _ _ _ c.in_ok-put.ensures
+    (sent_more _ _ _ _ _ _ _ _ _ _ _ _ c.in_ok-put_data_file.ensures
+    (sent_more _ _ _ _ _ _ _ _ _ _ _ _ c.in_ok-put_references.ensures
+    (sent_more _ _ _ _ _ _ _ _ _ _ _ _ c.in_ok-put-2.ensures
+    (sent_more _ _ _ _ _ _ _ _ _ _ _ _ c.in_ok-put-3.ensures
+    c.put-4.ensures)))))
