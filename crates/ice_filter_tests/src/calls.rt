@@ -8,15 +8,25 @@ ghost use Rattle.ice_filter.specs.Parsing.{filter_of};
 ghost use Rattle.ice_filter.specs.Trees.{tree_of};
 ghost use Rattle.ice_meta.specs.Partitioning.{is_unpartitioned};
 ghost use Rattle.ice_meta.specs.Targets.{described, metadata_of, resolved, schema_for};
+ghost use Rattle.ice_meta_json.specs.Upgraded.{filled};
 ghost use Rattle.ice_project.specs.Projection.{projection};
 ghost use Rattle.ice_project.specs.Summaries.{summaries_may};
 ghost use Rattle.ice_project.specs.Tuples.{part_meets};
+ghost use Rattle.serde_json.specs.View.{view};
 
 use ice_filter::{Bound, Filter, FilterFault};
 use ice_meta::{MetaFault, Metadata, Schema, Spec, Target};
 use ice_project::PartFilter;
 use ice_value::{Cell, Summary};
+use serde_json::Value;
 use std::alloc::{AllocError, Global};
+
+/// The document with the sequence number of each snapshot, also where it is left out.
+pub fn filled(alloc: Global, json: Value) -> Result<Value, AllocError>
+    ensures { IfOk result (λ full. view full ≡ filled (view json)) }
+{
+    ice_meta_json::filled(alloc, json)
+}
 
 /// Reads metadata, or answers its first fault.
 pub fn read(alloc: Global, bytes: &[u8]) -> Result<Metadata, MetaFault>

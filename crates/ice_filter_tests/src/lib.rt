@@ -1,5 +1,5 @@
-//! Tests of ice_meta, ice_filter and ice_project, of what no clause says: files of other writers, texts, and calls with
-//! values from outside.
+//! Tests of ice_filter, ice_project and ice_transform, of what no clause says: texts, and values from outside. Public
+//! calls of ice_meta, ice_meta_json, ice_filter and ice_project stand here once more, too.
 #![tactic(auto)]
 
 mod calls;
@@ -10,10 +10,8 @@ mod columns;
 #[cfg(test)]
 mod language;
 #[cfg(test)]
-mod metadata;
-#[cfg(test)]
 mod projections;
 
 pub use calls::{
-    bind, is_unpartitioned, meets, parse, project, read, resolve, schema_for, summary_may,
+    bind, filled, is_unpartitioned, meets, parse, project, read, resolve, schema_for, summary_may,
 };

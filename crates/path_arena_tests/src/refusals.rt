@@ -5,7 +5,18 @@ use crate::held::holds;
 use path_arena::{Arena, ArenaFault};
 use std::alloc::{AllocError, Global};
 
-const PATHS: [&[u8]; 4] = [b"ab", b"", b"cd", b"s3://a/one"];
+/// Strings, of which the last four have one hash.
+const PATHS: [&[u8]; 9] = [
+    b"s3://a/one",
+    b"",
+    b"s3://a/two",
+    b"s3://a/on",
+    b"\x00",
+    b"s3://a/one/file0.orc-zzz",
+    b"s3://a/oaipbnepdJg8S22rG",
+    b"s3://a/oplodhpalcGrtVv.2",
+    b"s3://a/openljiljbfjilnoiHpATxCkQ",
+];
 
 /// Interns a string, again where a growth was refused.
 fn intern_at_last(arena: &mut Arena, string: &[u8]) -> Result<(), ArenaFault> {
