@@ -94,7 +94,7 @@ impl Reading {
 
 /// Puts the findings on a row's manifest and its live files last, and gives the number of its live entries. `bytes` is
 /// the room that the manifest is read into.
-fn audit_row<F: Files>(
+pub fn audit_row<F: Files>(
     alloc: Global,
     files: &F,
     basis: &Basis,

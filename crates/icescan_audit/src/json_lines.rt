@@ -54,7 +54,11 @@ fn file_value(file: &Option<Shared<Items<u8>>>) -> Value<'_>
 
 /// Sends a finding.
 #[tactic(auto, unfolding(crate::specs::JsonLines::finding_object))]
-fn put_finding<S: Sink>(page: &mut Page, sink: &mut S, finding: &Finding) -> Result<(), SinkFault>
+pub fn put_finding<S: Sink>(
+    page: &mut Page,
+    sink: &mut S,
+    finding: &Finding,
+) -> Result<(), SinkFault>
     ensures { Sent S.taken S.may_fail sink.old page.old result sink.new page.new (finding_object finding.now) }
 {
     let members = [
@@ -86,7 +90,7 @@ fn put_findings<S: Sink>(
 
 /// Sends a false total.
 #[tactic(auto, unfolding(crate::specs::JsonLines::total_object))]
-fn put_false_total<S: Sink>(
+pub fn put_false_total<S: Sink>(
     page: &mut Page,
     sink: &mut S,
     total: &FalseTotal,

@@ -149,7 +149,11 @@ fn put_finding_end<S: Sink>(
 
 /// Sends the line of a finding.
 #[tactic(auto, unfolding(crate::specs::Texts::finding_text))]
-fn put_finding<S: Sink>(page: &mut Page, sink: &mut S, finding: &Finding) -> Result<(), SinkFault>
+pub fn put_finding<S: Sink>(
+    page: &mut Page,
+    sink: &mut S,
+    finding: &Finding,
+) -> Result<(), SinkFault>
     ensures { Sent S.taken S.may_fail sink.old page.old result sink.new page.new (finding_text finding.now) }
 {
     page.put(sink, b"finding ")?;
@@ -167,7 +171,7 @@ pub fn number_of_findings(audit: &Audit) -> u128
 
 /// Puts the line of a false total.
 #[tactic(auto, unfolding(crate::specs::Texts::total_text))]
-fn push_false_total(text: &mut Vec<u8>, total: &FalseTotal) -> Result<(), AllocError>
+pub fn push_false_total(text: &mut Vec<u8>, total: &FalseTotal) -> Result<(), AllocError>
     ensures { OnOk result (text.new.items ≡ text.old.items ++ total_text total.now) }
 {
     text.extend_from_slice(b"finding ")?;

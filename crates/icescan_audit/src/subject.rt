@@ -78,7 +78,7 @@ fn number_of(metadata: &Metadata, target: &Target) -> SequenceNumber
 /// A snapshot of a table, with the schema that counts for it: the current one, or that of the snapshot itself for a tag
 /// and for a snapshot's id. The refusal is `Metadata` where there is no such snapshot; or `Memory`.
 #[tactic(auto, unfolding(crate::specs::Subjects::subject_in))]
-fn subject_in(alloc: Global, metadata: &Metadata, target: &Target) -> Result<Subject, RunFault>
+pub fn subject_in(alloc: Global, metadata: &Metadata, target: &Target) -> Result<Subject, RunFault>
     ensures gives { Gives RunFault.Memory (λ subject. subject) result
         (subject_in (view metadata.now.json) metadata.now.table target.now) }
     ensures causes { IfErr result IsOfMetadata }

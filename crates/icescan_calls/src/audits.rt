@@ -10,12 +10,15 @@ ghost use Rattle.icescan_audit_findings.specs.Findings.{manifest_findings};
 ghost use Rattle.icescan_audit_findings.specs.RowFlaws.{row_findings};
 ghost use Rattle.icescan_audit_findings.specs.Totals.{false_totals};
 ghost use Rattle.icescan_audit.specs.AnyFiles.{WritesAnAudit};
+ghost use Rattle.icescan_audit_all.specs.Texts.{all_text};
 
 use contract_words::Items;
 use ice_desk::Files;
 use ice_manifest_reading::{ManifestFault, Row};
 use ice_meta::{Spec, Target};
+use icescan_audit_all::SnapshotAudit;
 use icescan_audit_findings::{Basis, FalseTotal, Finding, LiveFile, SaidTotal};
+use icescan_forms::Format;
 use icescan_print::Sink;
 use icescan_text::RunFault;
 use std::alloc::{AllocError, Global};
@@ -119,4 +122,16 @@ pub fn audit_file<R: Threads + Sync, F: Files + Sync, W: Sink>(
         WritesAnAudit (F.gives files.now) metadata target.now result (W.taken output.old) (W.taken output.new) }
 {
     icescan_audit::audit_file(rt, alloc, files, path, target, workers, output)
+}
+
+/// The text of the audits of all snapshots.
+pub fn audits_text(
+    alloc: Global,
+    form: Format,
+    audits: &[SnapshotAudit],
+) -> Result<Vec<u8>, AllocError>
+    ensures { IfOk result (λ text. text.items ≡ all_text form audits.now) }
+{
+    let (text, _faults) = icescan_audit_all::audits_text(alloc, form, audits)?;
+    Ok(text)
 }

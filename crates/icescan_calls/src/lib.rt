@@ -8,6 +8,7 @@ mod texts;
 
 pub use answers::{commit_below, delete_changes, file_fate, is_unchanged, show_below};
 pub use audits::{
-    audit_file, delete_findings, false_totals, live_files, manifest_findings, row_findings,
+    audit_file, audits_text, delete_findings, false_totals, live_files, manifest_findings,
+    row_findings,
 };
 pub use texts::{send_plan, write_all};

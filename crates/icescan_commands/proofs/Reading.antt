@@ -5,6 +5,8 @@ use Rattle.std.proofs.lemmas.Result.{IfOk-weaker, on_ok_weaker}
 use Rattle.ice_desk.specs.Given.{Giving}
 use Rattle.ice_meta.specs.declared.metadata.Target.{Target}
 use Rattle.icescan_audit.proofs.AnyFiles.{more_audits}
+use Rattle.icescan_audit_all.proofs.MoreGiven.{audits_more}
+use Rattle.icescan_audit_all.specs.Texts.{WroteAuditsAt}
 use Rattle.icescan_changes.proofs.MoreGiven.{more_changes}
 use Rattle.icescan_explain.proofs.MoreGiven.{more_explanations}
 use Rattle.icescan_forms.specs.declared.part.Part.{Part}
@@ -155,6 +157,15 @@ module _ (below : GivingBelow) where
   audit_below (source.Folder place) gives wider form path target workers result o o' wrote =
       IfOk-weaker result _ _
       (λ count w. audit_more gives (below place.folder place.prefix) wider form path target count o o' w) wrote
+
+  pub audits_below : (from : Source) (gives : Giving) → AreGivenBelow below from gives → (form : Format)
+      (path : List ℕ) (workers : ℕ) (result : Result ℕ RunFault) (o o' : Option (List ℕ))
+      → IfOk result (λ count. WroteAuditsAt form gives path count o o')
+      → IfOk result (λ count. WroteOfGiven below (command.AuditAll from form workers path) count o o')
+  audits_below source.Bundle gives wider form path workers result o o' wrote = any_count result
+  audits_below (source.Folder place) gives wider form path workers result o o' wrote =
+      IfOk-weaker result _ _
+      (λ count w. audits_more gives (below place.folder place.prefix) wider form path count o o' w) wrote
 
   pub explain_below : (from : Source) (gives : Giving) → AreGivenBelow below from gives → (form : Format)
       (path : List ℕ) (request : Request) (workers : ℕ) (result : Result Unit RunFault) (o o' : Option (List ℕ))

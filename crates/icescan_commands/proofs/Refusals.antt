@@ -142,6 +142,11 @@ pub untold_ran : (failing : Failing) (r : Result Unit RunFault) (o o' : Option (
 untold_ran failing (Ok x) o o' h = record { written = tt; refused = tt; nothing = tt; front = λ is. tt }
 untold_ran failing (Err e) o o' h = record { written = tt; refused = tt; nothing = h; front = λ is. tt }
 
+pub untold_count_ran : (failing : Failing) (r : Result ℕ RunFault) (o o' : Option (List ℕ))
+    → IfErr r (λ fault. fault ≢ run.Write → o' ≡ o) → Ran None failing (ended r) o o'
+untold_count_ran failing (Ok x) o o' h = record { written = tt; refused = tt; nothing = tt; front = λ is. tt }
+untold_count_ran failing (Err e) o o' h = record { written = tt; refused = tt; nothing = h; front = λ is. tt }
+
 -- an answer that is the same
 pub known_ran : (known told : Option (Result Answer RunFault)) (failing : Failing) (r : Result Unit RunFault)
     (o o' : Option (List ℕ)) → known ≡ told → Ran told failing r o o' → Ran known failing r o o'

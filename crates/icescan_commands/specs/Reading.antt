@@ -4,6 +4,7 @@ use Rattle.std.specs.Prelude.{◌≡◌, ℕ, List, Option, Some, Result, Ok, Er
 use Rattle.ice_desk.specs.Given.{Giving}
 use Rattle.ice_meta.specs.declared.metadata.Target.{Target}
 use Rattle.icescan_audit.specs.JsonLines.{WroteAnAuditAs}
+use Rattle.icescan_audit_all.specs.Texts.{WroteAuditsAt}
 use Rattle.icescan_changes.specs.Answers.{WroteChangesOfGiven}
 use Rattle.icescan_columns.specs.Columns.{columns_of, shown_json_of}
 use Rattle.icescan_explain.specs.JsonLines.{WroteAnExplanationAs}
@@ -105,6 +106,8 @@ WroteOfGiven below (command.Show (source.Folder place) form path) count output o
     WroteShown form (given_at below place) path output output'
 WroteOfGiven below (command.Audit (source.Folder place) target form workers path) count output output' =
     WroteAudited form (given_at below place) path target count output output'
+WroteOfGiven below (command.AuditAll (source.Folder place) form workers path) count output output' =
+    WroteAuditsAt form (given_at below place) path count output output'
 WroteOfGiven below (command.Explain (source.Folder place) request form workers path) count output output' =
     WroteExplained form (given_at below place) path request output output'
 WroteOfGiven below (command.Relaxed what (source.Folder place) request form workers path) count output output' =

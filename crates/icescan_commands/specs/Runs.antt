@@ -145,6 +145,7 @@ answer_to below (command.Columns source target form path) input =
     over below source (λ world. columns_told form world path target) input
 answer_to below (command.Audit source target form workers path) input =
     over below source (λ world. audit_in form world path target workers) input
+answer_to below (command.AuditAll source form workers path) input = None
 answer_to below (command.Explain source request form workers path) input =
     over below source (λ world. explain_in form world path request workers) input
 answer_to below (command.Relaxed what source request form workers path) input =
@@ -175,6 +176,7 @@ failing_of below may_fail (command.Columns source target form path) write =
     failing_over below may_fail source (λ world. path ∷ []) write
 failing_of below may_fail (command.Audit source target form workers path) write =
     failing_over below may_fail source (λ world. audit_reads_at world path target) write
+failing_of below may_fail (command.AuditAll source form workers path) write = failing_unread write
 failing_of below may_fail (command.Explain source request form workers path) write =
     failing_over below may_fail source (λ world. reads_at world path request) write
 failing_of below may_fail (command.Relaxed what source request form workers path) write =
@@ -200,12 +202,13 @@ abbrev pub failing_run : Below → MayFailBelow → Result Command RunFault → 
 failing_run below may_fail (Ok asked) write = failing_of below may_fail asked write
 failing_run below may_fail (Err fault) write = failing_unread write
 
--- the number of findings that are faults of which a command tells: an audit of its own, where its files are known; any
--- other of none
+-- the number of findings that are faults of which a command tells: an audit of its own, where its files are known; the
+-- audits of all snapshots of theirs, as `WroteOfGiven` has it; any other of none
 abbrev pub IsCount : Below → Command → List ℕ → ℕ → Type 0
 IsCount below (command.Audit source target form workers path) input count =
     IfSome (over below source (λ world. audit_at world path target workers) input)
     (λ (read : Result Audit RunFault). IfOk read (λ (audit : Audit). count ≡ length (faults audit.findings)))
+IsCount below (command.AuditAll source form workers path) input count = Unit {0}
 IsCount below _ input count = count ≡ 0
 
 abbrev pub IsCountOf : Below → Result Command RunFault → List ℕ → ℕ → Type 0

@@ -24,6 +24,7 @@ use crate::system::System;
 use crate::table_files::{open_files, watched_files};
 use contract_words::{Items, Text};
 use ice_meta::Target;
+use icescan_audit_all::audit_all_file;
 use icescan_columns::columns_file;
 use icescan_commits::{commit_to, prepare_commit};
 use icescan_drill::{Watch, run_drill};
@@ -265,6 +266,30 @@ pub fn audit<H: Threads + Sync, S: Folders + Sync, P: Progress + Sync, R: Read, 
     let files = open_files(system, table.source, input)?;
     let path = table.path.as_str();
     let answer = write_audit(system, &files, path, target, format, workers, output);
+    drop(files);
+    answer
+}
+
+/// Writes the audits of all snapshots of a table, in a form and by so many workers, and gives the number of findings that
+/// are faults.
+pub fn audit_all<H, S: Folders, P: Progress, R: Read, W: Sink>(
+    system: &System<'_, H, S, P>,
+    table: &TableAt<'_>,
+    format: Format,
+    workers: usize,
+    input: &mut R,
+    output: &mut W,
+) -> Result<usize, RunFault>
+    requires { P.may_be_told system.now.progress.now ≡ true }
+    ensures ran { Ran None (failing_unread (W.may_fail output.old)) (ended result) (W.taken output.old)
+        (W.taken output.new) }
+    ensures given { IfOk result (λ count. WroteOfGiven (S.gives system.now.folders.now)
+        (Command.AuditAll table.now.source.now format workers table.now.path.now) count (W.taken output.old)
+        (W.taken output.new)) }
+{
+    let files = open_files(system, table.source, input)?;
+    let path = table.path.as_str();
+    let answer = audit_all_file(system.alloc, &files, path, workers, format, output);
     drop(files);
     answer
 }

@@ -12,8 +12,8 @@ ghost use Rattle.icescan_words.specs.declared.command.Command.{Command};
 ghost use Rattle.icescan_text.specs.declared.fault.RunFault.{RunFault};
 
 use crate::arms::{
-    TableAt, audit, changes, columns, commit, drill, explain, list_plan, locate, orphans, plan,
-    reachable, relaxed, show, tell, tell_unasked,
+    TableAt, audit, audit_all, changes, columns, commit, drill, explain, list_plan, locate,
+    orphans, plan, reachable, relaxed, show, tell, tell_unasked,
 };
 use crate::system::System;
 use icescan_drill::Watch;
@@ -89,6 +89,10 @@ where
         Command::Audit(source, target, format, workers, path) => {
             let table = &TableAt { source, path };
             audit(system, table, target, *format, *workers, input, output)
+        }
+        Command::AuditAll(source, format, workers, path) => {
+            let table = &TableAt { source, path };
+            audit_all(system, table, *format, *workers, input, output)
         }
         Command::Explain(source, request, format, workers, path) => {
             let table = &TableAt { source, path };

@@ -17,6 +17,7 @@ pub fn place_of(asked: &Command) -> Option<&Place> {
         Command::Show(Source::Folder(place), _, _) => Some(place),
         Command::Columns(Source::Folder(place), _, _, _) => Some(place),
         Command::Audit(Source::Folder(place), _, _, _, _) => Some(place),
+        Command::AuditAll(Source::Folder(place), _, _, _) => Some(place),
         Command::Explain(Source::Folder(place), _, _, _, _) => Some(place),
         Command::Relaxed(_, Source::Folder(place), _, _, _, _) => Some(place),
         Command::Changes(Source::Folder(place), _, _, _, _) => Some(place),
@@ -46,6 +47,7 @@ impl<'a, F: Files> Case<'a, F> {
             | Command::Show(_, _, path)
             | Command::Columns(_, _, _, path)
             | Command::Audit(_, _, _, _, path)
+            | Command::AuditAll(_, _, _, path)
             | Command::Explain(_, _, _, _, path)
             | Command::Relaxed(_, _, _, _, _, path)
             | Command::Changes(_, _, _, _, path)

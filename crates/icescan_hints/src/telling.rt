@@ -101,6 +101,7 @@ fn add_workers<F: Files>(
     match case.asked {
         Command::Plan(_, _, _, workers, _)
         | Command::Audit(_, _, _, workers, _)
+        | Command::AuditAll(_, _, workers, _)
         | Command::Explain(_, _, _, workers, _)
         | Command::Relaxed(_, _, _, _, workers, _)
         | Command::Changes(_, _, _, workers, _) => {

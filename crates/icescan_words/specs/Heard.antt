@@ -154,6 +154,7 @@ command_name (command.Show from form path) = codes "show"
 command_name (command.Locate folder told) = codes "locate"
 command_name (command.Columns from of form path) = codes "columns"
 command_name (command.Audit from of form workers path) = codes "audit"
+command_name (command.AuditAll from form workers path) = codes "audit"
 command_name (command.Explain from request form workers path) = codes "explain"
 command_name (command.Relaxed what from request form workers path) = relaxed_name what
 command_name (command.Changes from request form workers path) = codes "changes"
@@ -194,6 +195,10 @@ module _ (words : List (List ℕ)) where
   -- a word asks for a relaxed filter, or none does
   abbrev pub IsRelaxed : Bool → Type 0
   IsRelaxed asked = asked ≡ has_word (codes "--relax")
+
+  -- a word asks for all snapshots, or none does
+  abbrev pub IsOfAll : Bool → Type 0
+  IsOfAll asked = asked ≡ has_word (codes "--all")
 
   abbrev pub HasAppends : Bool → Type 0
   HasAppends appends = appends ≡ has_word (codes "--appends")
@@ -240,7 +245,9 @@ module _ (words : List (List ℕ)) where
   AsksFor (command.Columns from of form path) =
       Names (codes "columns") path × HasSource from × HasTarget of × HasFormat form
   AsksFor (command.Audit from of form workers path) =
-      Names (codes "audit") path × HasSource from × HasTarget of × HasFormat form × HasWorkers workers
+      Names (codes "audit") path × HasSource from × HasTarget of × HasFormat form × HasWorkers workers × IsOfAll false
+  AsksFor (command.AuditAll from form workers path) =
+      Names (codes "audit") path × HasSource from × HasFormat form × HasWorkers workers × IsOfAll true
   AsksFor (command.Explain from request form workers path) =
       Names (codes "explain") path × HasSource from × HasRequest request × HasFormat form × HasWorkers workers
       × IsRelaxed false

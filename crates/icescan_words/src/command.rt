@@ -65,6 +65,8 @@ pub enum Command {
     Columns(Source, Target, Format, Text),
     /// The audit, in this form and by so many workers, of this snapshot of the table whose metadata is at this path.
     Audit(Source, Target, Format, usize, Text),
+    /// The audits, in this form and by so many workers, of all snapshots of the table whose metadata is at this path.
+    AuditAll(Source, Format, usize, Text),
     /// The plan, by so many workers, that is asked of the table whose metadata is at this path, explained in this form.
     Explain(Source, Request, Format, usize, Text),
     /// This of the table whose metadata is at this path, in this form and by so many workers, under a relaxed filter.

@@ -11,9 +11,9 @@ use crate::locate_command::locate_command;
 use crate::orphans_command::orphans_command;
 use crate::parameter::{Parameter, argument, flag};
 use crate::parameters::{
-    AUDITED_REF, AUDITED_SNAPSHOT, BUNDLE, CHANGE, COMMITS, DIR, FILTER, FORMAT, LINES_FORMAT,
-    LIST, METADATA, NOW_MS, OUT, PREFIX, QUIET, REF, RELAX, SNAPSHOT, SNAPSHOT_ID, THREADS, UUID,
-    WORKERS,
+    AUDITED_ALL, AUDITED_REF, AUDITED_SNAPSHOT, BUNDLE, CHANGE, COMMITS, DIR, FILTER, FORMAT,
+    LINES_FORMAT, LIST, METADATA, NOW_MS, OUT, PREFIX, QUIET, REF, RELAX, SNAPSHOT, SNAPSHOT_ID,
+    THREADS, UUID, WORKERS,
 };
 use crate::reachable_command::reachable_command;
 use clap::{Arg, ArgGroup, Command};
@@ -78,6 +78,7 @@ const AUDIT: &[Parameter] = &[
     METADATA,
     AUDITED_REF,
     AUDITED_SNAPSHOT,
+    AUDITED_ALL,
     WORKERS,
     LINES_FORMAT,
     BUNDLE,

@@ -7,7 +7,7 @@ ghost use Rattle.uuid.specs.Text.{parsed};
 ghost use Rattle.icescan_words.specs.Heard.{HasAppends, HasChanges, HasNamedPlan, IsNamed, IsRelaxed, relaxed_name};
 ghost use Rattle.icescan_words.specs.Heard.{AsksFor, HasCommit, HasDrill, HasFormat, HasIds, HasRequest, HasSource};
 ghost use Rattle.icescan_words.specs.Heard.{HasLocated, HasPart, HasTarget, HasWorkers, Names, asks_help, is_equals};
-ghost use Rattle.icescan_words.specs.Heard.{is_flag};
+ghost use Rattle.icescan_words.specs.Heard.{IsOfAll, is_flag};
 ghost use Rattle.icescan_words.specs.Heard.{list_of, name_of};
 ghost use Rattle.icescan_words.specs.Heard.{option_in, option_items, plain_words, located_by, signed, source_of};
 ghost use Rattle.icescan_words.specs.Heard.{takes_next};
@@ -469,12 +469,28 @@ fn has_columns(words: &[String], target: &Target, format: Format) -> bool
     has_target(words, target) && has_format(words, format)
 }
 
-/// Whether the words ask for this snapshot, in this form and by so many workers.
+/// Whether the words ask for all snapshots, or don't.
+fn is_of_all(words: &[String], all: bool) -> bool
+    ensures { IsTrue result → IsOfAll (map string_bytes words.now) all }
+{
+    all == has_word(words, "--all")
+}
+
+/// Whether the words ask for the audit of this snapshot, in this form and by so many workers.
 fn has_audit(words: &[String], target: &Target, format: Format, workers: usize) -> bool
     ensures { IsTrue result → HasTarget (map string_bytes words.now) target.now
-        × HasFormat (map string_bytes words.now) format × HasWorkers (map string_bytes words.now) workers }
+        × HasFormat (map string_bytes words.now) format × HasWorkers (map string_bytes words.now) workers
+        × IsOfAll (map string_bytes words.now) false }
 {
-    has_columns(words, target, format) && has_workers(words, workers)
+    has_columns(words, target, format) && has_workers(words, workers) && is_of_all(words, false)
+}
+
+/// Whether the words ask for the audits of all snapshots, in this form and by so many workers.
+fn has_audits(words: &[String], format: Format, workers: usize) -> bool
+    ensures { IsTrue result → HasFormat (map string_bytes words.now) format
+        × HasWorkers (map string_bytes words.now) workers × IsOfAll (map string_bytes words.now) true }
+{
+    has_format(words, format) && has_workers(words, workers) && is_of_all(words, true)
 }
 
 /// Whether the words name this snapshot by the option of this name.
@@ -592,6 +608,10 @@ fn asks_with(words: &[String], plain: &[&str], command: &Command) -> bool
         Command::Audit(source, target, format, workers, path) => {
             is_about(words, plain, "audit", source, path.as_str())
                 && has_audit(words, target, *format, *workers)
+        }
+        Command::AuditAll(source, format, workers, path) => {
+            is_about(words, plain, "audit", source, path.as_str())
+                && has_audits(words, *format, *workers)
         }
         Command::Explain(source, request, format, workers, path) => {
             is_about(words, plain, "explain", source, path.as_str())

@@ -134,6 +134,11 @@ column by itself, values of which the manifest is right. No data file is read.
 With --format json each line is an object: a finding, whose `level` is `fault`
 or `note`, or last the numbers.
 
+--all audits every snapshot, each by its own schema, and reads each manifest
+once. A finding is told once, with `snapshots` and their ids behind it; the
+lines are in the order of their bytes, and the last has the numbers of
+snapshots, manifests, findings and faults.
+
 Example, at the top of icescan's repository:
   icescan audit --dir examples/events-java/table --prefix s3://warehouse/db/events \\
     s3://warehouse/db/events/metadata/00009-ea5012f5-592b-59fd-6564-e953f439e682.metadata.json

@@ -345,6 +345,9 @@ fn audit_command(alloc: Global, matches: &ArgMatches<'_>) -> Result<Command, Run
     let workers = workers_of(alloc, matches)?;
     let metadata = required_text(alloc, matches, "metadata")?;
     let source = source_of(alloc, matches)?;
+    if matches.get_flag("all") {
+        return Ok(Command::AuditAll(source, format, workers, metadata));
+    }
     let target = target_of(alloc, matches)?;
     Ok(Command::Audit(source, target, format, workers, metadata))
 }

@@ -141,8 +141,17 @@ pub const AUDITED_REF: Parameter = Parameter {
 };
 
 pub const AUDITED_SNAPSHOT: Parameter = Parameter {
+    rule: Rule::Without("all"),
     help: "Audit the snapshot of this id",
     ..SNAPSHOT
+};
+
+/// Whether all snapshots are audited.
+pub const AUDITED_ALL: Parameter = Parameter {
+    name: "all",
+    rule: Rule::Without("ref"),
+    help: "Audit all snapshots, each manifest once",
+    ..BUNDLE
 };
 
 /// The same, for columns.

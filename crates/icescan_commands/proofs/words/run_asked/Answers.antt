@@ -586,3 +586,42 @@ returns-in-Relaxed-clause-beside g c =
 pub returns-in-Relaxed-clause-untold : goal.returns-in-Relaxed-clause-untold
 returns-in-Relaxed-clause-untold g c = on_err_as _ c.tell_unasked.result c.no_findings-in-Relaxed.result
     c.no_findings-in-Relaxed.ensures.same c.tell_unasked.ensures.untold
+
+pub returns-in-AuditAll-clause-ran : goal.returns-in-AuditAll-clause-ran
+returns-in-AuditAll-clause-ran g c =
+    let left = g.R.Read.remaining c.args.input.now in
+    let asked : c.args.asked.now ≡
+    command.AuditAll c.in-AuditAll.source c.in-AuditAll.format c.in-AuditAll.workers c.in-AuditAll.path =
+    search rules in
+    rw asked (left_of left, is_left left, c.audit_all.ensures.ran, any_count c.audit_all.result)
+
+pub returns-in-AuditAll-clause-stored : goal.returns-in-AuditAll-clause-stored
+returns-in-AuditAll-clause-stored g c =
+    let asked : c.args.asked.now ≡
+    command.AuditAll c.in-AuditAll.source c.in-AuditAll.format c.in-AuditAll.workers c.in-AuditAll.path =
+    search rules in
+    rw asked refl
+
+pub returns-in-AuditAll-clause-given : goal.returns-in-AuditAll-clause-given
+returns-in-AuditAll-clause-given g c =
+    let asked : c.args.asked.now ≡
+    command.AuditAll c.in-AuditAll.source c.in-AuditAll.format c.in-AuditAll.workers c.in-AuditAll.path =
+    search rules in
+    rw asked c.audit_all.ensures.given
+
+pub returns-in-AuditAll-clause-stored_of_given : goal.returns-in-AuditAll-clause-stored_of_given
+returns-in-AuditAll-clause-stored_of_given g c =
+    let asked : c.args.asked.now ≡
+    command.AuditAll c.in-AuditAll.source c.in-AuditAll.format c.in-AuditAll.workers c.in-AuditAll.path =
+    search rules in
+    rw asked tt
+
+pub returns-in-AuditAll-clause-beside : goal.returns-in-AuditAll-clause-beside
+returns-in-AuditAll-clause-beside g c =
+    let asked : c.args.asked.now ≡
+    command.AuditAll c.in-AuditAll.source c.in-AuditAll.format c.in-AuditAll.workers c.in-AuditAll.path =
+    search rules in
+    rw asked (none_beside c.audit_all.result (g.E.Sink.taken c.args.errors.now))
+
+pub returns-in-AuditAll-clause-untold : goal.returns-in-AuditAll-clause-untold
+returns-in-AuditAll-clause-untold g c = still_same c.audit_all.result c.args.errors.now

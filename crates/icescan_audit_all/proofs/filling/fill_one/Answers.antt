@@ -1,0 +1,18 @@
+use Rattle.std.proofs.Common.{rules, Some}
+use Rattle.std.proofs.lemmas.Result.{on_ok_weaker}
+use Rattle.icescan_audit_all.specs.Snapshots.{IsClass}
+use Rattle.icescan_audit_all.proofs.Bases.{all_get, kept_put}
+use Rattle.icescan_audit_all.proofs.filling.fill_one.Goals as goal
+
+pub returns-in-Some-clause-kept : goal.returns-in-Some-clause-kept
+returns-in-Some-clause-kept g c = λ d classes all.
+    let gives = g.F.Files.gives c.args.files.now in
+    let class = c.in-Some.class.now in
+    let row = c.args.want.now.row in
+    let bytes = c.as_slice.result.now in
+    let found = c.in-Some.ensures.lookup in
+    let given : gives row.path (Some bytes) = search rules in
+    on_ok_weaker c.put_reading.result
+    (kept_put gives d class row bytes c.args.kept.now.items c.put_reading.new.kept.items
+    (all_get (IsClass d) c.args.classes.now c.args.want.now.class class classes found.3.0 found.1) given all)
+    c.put_reading.ensures.read

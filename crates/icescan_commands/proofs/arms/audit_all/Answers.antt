@@ -1,0 +1,25 @@
+use Rattle.std.proofs.Common.{refl}
+use Rattle.std.proofs.lemmas.Result.{err_from_is_err_and}
+use Rattle.std.specs.Prelude.{Err}
+use Rattle.icescan_commands.specs.Sources.{failing_unread}
+use Rattle.icescan_commands.proofs.Reading.{audits_below}
+use Rattle.icescan_commands.proofs.Refusals.{untold_count_ran, untold_ran}
+use Rattle.icescan_commands.proofs.arms.audit_all.Goals as goal
+
+pub returns-in_err-files-clause-ran : goal.returns-in_err-files-clause-ran
+returns-in_err-files-clause-ran g c =
+    let p = err_from_is_err_and c.from_residual.result c.from_residual.ensures.1 in
+    rw (p.1, p.2) (untold_ran (failing_unread (g.W.Sink.may_fail c.args.output.now)) (Err c.in_err-files.field-0.0) _ _
+    (λ other. refl))
+
+pub returns-clause-ran : goal.returns-clause-ran
+returns-clause-ran g c = untold_count_ran (failing_unread (g.W.Sink.may_fail c.args.output.now))
+    c.audit_all_file-answer.result _ _ c.audit_all_file-answer.ensures.nothing
+
+pub returns-clause-given : goal.returns-clause-given
+returns-clause-given g c =
+    let path = c.as_str.result.now in
+    let wrote = audits_below (g.S.Folders.gives c.args.system.now.folders.now) c.args.table.now.source.now _
+    c.in_ok-files.ensures.given c.args.format path c.args.workers c.audit_all_file-answer.result _ _
+    c.audit_all_file-answer.ensures.given in
+    rw c.as_str.ensures at wrote
