@@ -13,8 +13,6 @@
 
 Manifests and manifest lists have to be without compression. Rows that are read must still be filtered.
 """
-from ._audit import Audit, Finding, audit
-from ._columns import Column, Columns, PartitionField, columns
 from ._errors import (
     EncodingError,
     Error,
@@ -28,32 +26,24 @@ from ._errors import (
     TableError,
 )
 from ._files import Folder
-from ._plan import DataFile, DeleteFile, Plan, plan, plan_json
+from ._plan import DataFile, DeleteFile, Plan, plan
 
 __version__ = "0.1.0"
 
 __all__ = [
-    "Audit",
-    "Column",
-    "Columns",
     "DataFile",
     "DeleteFile",
     "EncodingError",
     "Error",
     "FilterError",
-    "Finding",
     "Folder",
     "KindError",
     "LibraryNotFound",
     "NullError",
     "OtherScan",
     "OutOfMemory",
-    "PartitionField",
     "PastEnd",
     "Plan",
     "TableError",
-    "audit",
-    "columns",
     "plan",
-    "plan_json",
 ]

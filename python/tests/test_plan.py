@@ -5,7 +5,6 @@
 """
 import ctypes
 import importlib.util
-import json
 import os
 import sys
 import threading
@@ -14,7 +13,7 @@ import unittest
 from unittest import mock
 
 import icescan
-from icescan import _audit, _library, _plan
+from icescan import _library, _plan
 
 EXAMPLES = os.path.join(os.path.dirname(os.path.abspath(__file__)), "..", "..", "examples")
 EVENTS = "s3://warehouse/db/events"
@@ -110,25 +109,6 @@ class Plans(unittest.TestCase):
             with self.subTest(table):
                 self.assertEqual("".join(lines), expected(table, "partitions"))
 
-    def test_types_of_partitions(self):
-        types = {it.partition_types for it in (*events(), *events().delete_files)}
-        self.assertEqual(types, {(), ("date",), ("date", "int")})
-        self.assertEqual({len(it.partition_types) - len(it.partition) for it in events()}, {0})
-
-    def test_json(self):
-        for name, asked in ASKED.items():
-            plan = events(**asked)
-            text = icescan.plan_json(EVENTS_METADATA, folder=folder_of("events-java"), prefix=EVENTS, **asked)
-            told = json.loads(text)
-            deletes = [it["file-path"] for it in told["delete-files"]]
-            tasks = [
-                (it["data-file"]["file-path"], [deletes[n] for n in it.get("delete-file-references", [])])
-                for it in told["file-scan-tasks"]
-            ]
-            wanted = [(it.path, [d.path for d in it.position_deletes + it.equality_deletes]) for it in plan]
-            with self.subTest(name):
-                self.assertEqual(tasks, wanted)
-
     def test_partitions_of_delete_files(self):
         for file in events():
             for delete in file.position_deletes + file.equality_deletes:
@@ -152,73 +132,6 @@ class Plans(unittest.TestCase):
         self.assertEqual(events(relax=True), events())
         tagged = events(ref="eoy", filter="category = 'books' and amount > 5", relax=True)
         self.assertEqual(tagged.unasked, ("amount > 5",))
-
-
-class Columns(unittest.TestCase):
-    def columns(self, **asked):
-        return icescan.columns(EVENTS_METADATA, folder=folder_of("events-java"), prefix=EVENTS, **asked)
-
-    def test_of_a_tag(self):
-        columns = self.columns(ref="eoy")
-        self.assertEqual(
-            [(it.id, it.type, it.compared, it.name) for it in columns][:5],
-            [
-                (1, "long", "yes", "id"),
-                (2, "timestamptz", "yes", "ts"),
-                (3, "string", "yes", "category"),
-                (4, "double", "no", "amount"),
-                (5, "struct", "no", "location"),
-            ],
-        )
-        self.assertEqual((columns.schema_id, len(columns), columns.default_spec_id), (0, 14, 2))
-        self.assertEqual([it.required for it in columns][:3], [True, True, False])
-        bucket = icescan.PartitionField(1001, 1, "bucket[16]", "id_bucket")
-        self.assertEqual((columns.specs[0], columns.specs[2][1:]), ((), (bucket,)))
-
-    def test_names_are_asked(self):
-        for column in self.columns():
-            if column.name and column.compared == "yes":
-                with self.subTest(column.name):
-                    events(filter=f"{column.name} is null")
-
-    def test_refusals(self):
-        for reason, asked in {"M6": {"ref": "nowhere"}, "M7": {"snapshot": 1}}.items():
-            with self.subTest(reason), self.assertRaises(icescan.TableError) as raised:
-                self.columns(**asked)
-            self.assertEqual(raised.exception.reason, reason)
-        with self.assertRaises(ValueError):
-            self.columns(ref="eoy", snapshot=1)
-
-
-class Audits(unittest.TestCase):
-    def audit(self, **asked):
-        return icescan.audit(EVENTS_METADATA, folder=folder_of("events-java"), prefix=EVENTS, **asked)
-
-    def test_any_number_of_workers(self):
-        audit = self.audit()
-        self.assertEqual(audit.faults, ())
-        self.assertGreaterEqual(audit.entries, len(events()))
-        for workers in (1, 3, 16):
-            with self.subTest(workers=workers):
-                self.assertEqual(self.audit(workers=workers), audit)
-
-    def test_refusals(self):
-        folder = icescan.Folder(folder_of("events-java"), EVENTS)
-        for end, reason in {".metadata.json": "M1", f"{LIST}.avro": "N1", "u0-m0.avro": "Z2"}.items():
-            with self.subTest(end), self.assertRaises(icescan.TableError) as raised:
-                icescan.audit(EVENTS_METADATA, read=lambda path: b"" if path.endswith(end) else folder(path))
-            self.assertEqual(raised.exception.reason, reason, raised.exception.line)
-
-    def test_findings(self):
-        lines = [
-            '{"kind":"finding","finding":"uncovered","level":"fault","manifest":"m","file":"f","field":"d"}',
-            '{"kind":"finding","finding":"total-records","level":"note","says":3,"counted":4}',
-            '{"kind":"totals","manifests":1,"entries":2,"findings":2,"faults":1}',
-        ]
-        audit = _audit.audit_of([json.loads(it) for it in lines])
-        fault = icescan.Finding("uncovered", True, "m", "f", "d")
-        self.assertEqual((audit.faults, audit.manifests, audit.entries), ((fault,), 1, 2))
-        self.assertEqual(audit.findings[1], icescan.Finding("total-records", False, says=3, counted=4))
 
 
 class Sizes(unittest.TestCase):

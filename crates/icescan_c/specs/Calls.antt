@@ -1,13 +1,10 @@
 -- What calls do to what handles hold.
-use Rattle.std.specs.Prelude.{◌≡◌, ◌⊎◌, ℕ, List, Option, Some, None, Result, Ok, Err, slice_get}
+use Rattle.std.specs.Prelude.{◌≡◌, ◌⊎◌, ℕ, List, Option, Some, None, Result, Ok, Err}
 use Rattle.icescan_text.specs.declared.request.Request.{Request}
 use Rattle.icescan_text.specs.declared.fault.RunFault.{RunFault}
 use Rattle.icescan_c.specs.Kept.{Kept}
-use Rattle.ice_manifest_reading.specs.declared.row.Row.{Row}
-use Rattle.icescan_audit.specs.Handed.{Handed}
-use Rattle.icescan_c.specs.Making.{Makes, finished, handing, opening, started, telling_audit}
+use Rattle.icescan_c.specs.Making.{Makes, finished, started}
 use Rattle.icescan_c_requests.specs.Requests.{ReadsTexts}
-use Rattle.icescan_json.specs.JsonAnswers.{IsJsonOfPlan}
 use Rattle.icescan_c.specs.States.{TakesOver, TakesRow, untaken}
 use Rattle.icescan_c_requests.specs.Statuses.{status_of}
 use Rattle.icescan_c.specs.declared.held.Held.{Held}
@@ -45,10 +42,9 @@ abbrev pub Selects : (Request → Result Held RunFault) → List (List ℕ) → 
 Selects made texts request before status after = (read : Result Request Refusal) × (ended : Result Unit Refusal)
     × ReadsTexts texts request read × (status ≡ status_of ended) × Asks made read before ended after
 
--- what was selected becomes the scan of a manifest list, and a snapshot to be audited its audit
+-- what was selected becomes the scan of a manifest list
 abbrev pub Starts : List ℕ → Held → Result Unit Refusal → Held → Type 0
 Starts list (held.Selection answer) ended after = Makes (started answer list) ended after
-Starts list (held.Subject subject) ended after = Makes (opening subject list) ended after
 Starts list other ended after = Refuses refusal.Kind other ended after
 
 -- ---- states
@@ -58,12 +54,10 @@ abbrev pub Begins : Held → Option Held → Result Unit Refusal → Option Held
 Begins (held.Scan scan) before ended after = ComesToHold (held.State (untaken scan)) before ended after
 Begins other before ended after = Refuses refusal.Kind before ended after
 
--- what a handle comes to hold of what another one holds
-abbrev pub OfOther : (Held → Option Held → Result Unit Refusal → Option Held → Type 0) → Option Held → Option Held → ℕ
-    → Option Held → Type 0
-OfOther works None before status after = (status ≡ status_of (Err refusal.Kind)) × (after ≡ before)
-OfOther works (Some other) before status after = (ended : Result Unit Refusal) × (status ≡ status_of ended)
-    × works other before ended after
+abbrev pub BeginsOf : Option Held → Option Held → ℕ → Option Held → Type 0
+BeginsOf None before status after = (status ≡ status_of (Err refusal.Kind)) × (after ≡ before)
+BeginsOf (Some scan) before status after = (ended : Result Unit Refusal) × (status ≡ status_of ended)
+    × Begins scan before ended after
 
 abbrev pub IsStateAfter : (Kept → Type 0) → Held → Type 0
 IsStateAfter is (held.State kept) = is kept
@@ -83,27 +77,7 @@ abbrev pub MergesOf : Option Held → Option Held → ℕ → Option Held → Ty
 MergesOf None before status after = (status ≡ status_of (Err refusal.Kind)) × (after ≡ before)
 MergesOf (Some other) before status after = OnHandle (Merges other) before status after
 
--- an audit takes the manifest of the next row
-abbrev pub HandsNext : Option Row → List ℕ → Handed → Result Unit Refusal → Held → Type 0
-HandsNext None manifest audit ended after = Refuses refusal.PastEnd (held.Audit audit) ended after
-HandsNext (Some row) manifest audit ended after = Makes (handing audit manifest) ended after
-
-abbrev pub Hands : List ℕ → Held → Result Unit Refusal → Held → Type 0
-Hands manifest (held.Audit audit) ended after =
-    HandsNext (slice_get audit.rows audit.read.manifests) manifest audit ended after
-Hands manifest other ended after = Refuses refusal.Kind other ended after
-
--- a state becomes the plan of what it took, and an audit what it found
+-- a state becomes the plan of what it took
 abbrev pub Finishes : Held → Result Unit Refusal → Held → Type 0
 Finishes (held.State kept) ended after = Makes (finished kept) ended after
-Finishes (held.Audit audit) ended after = Makes (telling_audit audit) ended after
 Finishes other ended after = Refuses refusal.Kind other ended after
-
--- ---- plans
-
--- a handle comes to hold a plan's JSON; without memory for it what was held stays
-abbrev pub TellsJson : Held → Option Held → Result Unit Refusal → Option Held → Type 0
-TellsJson (held.Plan plan) before (Ok x) after =
-    (text : List ℕ) × IsJsonOfPlan plan text × (after ≡ Some (held.Text text))
-TellsJson (held.Plan plan) before ended after = Refuses refusal.Memory before ended after
-TellsJson other before ended after = Refuses refusal.Kind before ended after

@@ -3,8 +3,7 @@
 use crate::questions::{Answer, SharedScan};
 use crate::states::State;
 use contract_words::Items;
-use icescan_audit::{HandedAudit, Subject};
-use icescan_json::TypedPlan;
+use ice_state::OwnedPlan;
 use icescan_relaxed::RelaxedRequest;
 
 /// What a handle holds.
@@ -16,18 +15,12 @@ pub enum Held {
     Selection(Answer),
     /// A request whose filter is relaxed.
     Relaxed(RelaxedRequest),
-    /// A snapshot to be audited, whose manifest list is still to be read.
-    Subject(Subject),
-    /// An audit, of which manifests are still to be read.
-    Audit(HandedAudit),
     /// A scan.
     Scan(SharedScan),
     /// A state of a scan.
     State(State),
-    /// A plan, with the types of its partition values.
-    Plan(TypedPlan),
-    /// Lines of JSON.
-    Text(Items<u8>),
+    /// A plan.
+    Plan(OwnedPlan),
     /// The line that tells why there is none of these; no bytes where memory ran out for it.
     Fault(Items<u8>),
 }

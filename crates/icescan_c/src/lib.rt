@@ -12,5 +12,4 @@ mod scan_calls;
 mod state_calls;
 mod states;
 mod telling;
-mod text_calls;
 mod working;

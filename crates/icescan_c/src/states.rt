@@ -1,17 +1,13 @@
 //! States: what was read of a scan so far.
 
-ghost use Rattle.std.specs.Prelude.{◌≡◌, IfOk, map};
+ghost use Rattle.std.specs.Prelude.{◌≡◌, IfOk};
 ghost use Rattle.contract_words.specs.Outcome.{Gives};
-ghost use Rattle.icescan_c.specs.Making.{planned};
-ghost use Rattle.icescan_json.specs.Types.{spec_types};
+ghost use Rattle.ice_state.specs.Outcomes.{outcome};
 ghost use Rattle.icescan_c.specs.States.{TakesOver, TakesRow, untaken};
 
 use crate::questions::SharedScan;
-use contract_words::Items;
-use ice_state::Partial;
+use ice_state::{FinishFault, OwnedPlan, Partial};
 use icescan_c_requests::Refusal;
-use icescan_json::{SpecTypes, TypedPlan, types_of_specs};
-use icescan_text::RunFault;
 use std::alloc::{AllocError, Global};
 use std::marker::Model;
 
@@ -84,23 +80,13 @@ impl State {
         Ok(())
     }
 
-    /// What is known of the scan's partition specs.
-    fn types(&self, alloc: Global) -> Result<Items<SpecTypes>, AllocError>
-        ensures { IfOk result (λ types. types ≡ map spec_types self.now.scan.specs) }
-    {
-        let types = types_of_specs(alloc, self.scan.scan().specs())?;
-        Ok(Items::from_vec(types))
-    }
-
     /// The plan, or what keeps the content from being one.
-    #[tactic(auto, unfolding(crate::specs::Making::planned))]
-    pub fn into_plan(self, alloc: Global) -> Result<TypedPlan, RunFault>
-        ensures { Gives RunFault.Memory (λ plan. plan) result (planned self) }
+    pub fn into_plan(self) -> Result<OwnedPlan, FinishFault>
+        ensures { Gives FinishFault.Memory (λ plan. plan) result (outcome self.scan self.content) }
     {
-        let types = self.types(alloc)?;
         let State { scan, partial } = self;
         let plan = partial.into_plan(scan.scan());
         drop(scan);
-        Ok(TypedPlan { types, plan: plan? })
+        plan
     }
 }

@@ -1,45 +1,30 @@
 //! Telling what a handle holds.
 
 ghost use Rattle.std.specs.Prelude.{◌≡◌, Err, IfErr, IfOk, Ok, slice_get};
-ghost use Rattle.icescan_c.specs.Readings.{IsCount, IsDeleteOf, IsFileOfLine, IsReason, IsTyped, OfPlaced, Tells};
+ghost use Rattle.icescan_c.specs.Readings.{IsCell, IsCount, IsDeleteOf, IsFileOfLine, OfPlaced, Tells};
 ghost use Rattle.icescan_c.specs.Readings.{TellsCountOfDeletes, TellsDelete, TellsDeleteValue, at_place, count_of};
 ghost use Rattle.icescan_c.specs.Readings.{equalities_of, fault_in, filter_of, lines_in, list_in, or_past, path_of};
-ghost use Rattle.icescan_c.specs.Readings.{plan_in, positions_of, relaxed_in, text_in, unasked_of, value_at, value_of};
-ghost use Rattle.icescan_c.specs.Readings.{wanted_in};
+ghost use Rattle.icescan_c.specs.Readings.{positions_of, relaxed_in, tuple_of, unasked_of, wanted_in};
 ghost use Rattle.icescan_c_files.specs.Lent.{AreLent};
 ghost use Rattle.icescan_c_requests.specs.Statuses.{status_of};
-ghost use Rattle.icescan_json.specs.Values.{type_at};
 
 use crate::held::Held;
-use ice_manifest_reading::Row;
-use ice_state::{OwnedPlan, PlacedFiles, PlanFile, PlanFiles};
-use ice_value::ColumnType;
+use crate::questions::SharedScan;
+use ice_state::{OwnedPlan, PlacedFiles, PlanFiles};
+use ice_value::Cell;
 use icescan_c_files::{File, Value};
 use icescan_c_lent::Bytes;
-use icescan_c_requests::{Reason, Refusal};
-use icescan_json::{SpecTypes, TypedPlan, types_of};
+use icescan_c_requests::Refusal;
 use icescan_relaxed::RelaxedRequest;
 
 impl Held {
-    /// The rows that a scan or an audit wants.
-    fn wanted(&self) -> Result<&[Row], Refusal>
-        ensures rows { IfOk result (λ rows. wanted_in self.now ≡ Ok rows.now) }
+    /// The scan that it holds.
+    fn scan(&self) -> Result<&SharedScan, Refusal>
+        ensures scan { IfOk result (λ asked. wanted_in self.now ≡ Ok asked.now.scan.wanted) }
         ensures none { IfErr result (λ refused. wanted_in self.now ≡ Err refused) }
     {
         match self {
-            Held::Scan(scan) => Ok(scan.scan().wanted()),
-            Held::Audit(audit) => Ok(audit.rows()),
-            _ => Err(Refusal::Kind),
-        }
-    }
-
-    /// The plan that it holds, with the types of its partition values.
-    fn typed(&self) -> Result<&TypedPlan, Refusal>
-        ensures plan { IfOk result (λ plan. plan_in self.now ≡ Ok plan.now) }
-        ensures none { IfErr result (λ refused. plan_in self.now ≡ Err refused) }
-    {
-        match self {
-            Held::Plan(plan) => Ok(plan),
+            Held::Scan(scan) => Ok(scan),
             _ => Err(Refusal::Kind),
         }
     }
@@ -50,7 +35,7 @@ impl Held {
         ensures none { IfErr result (λ refused. lines_in self.now ≡ Err refused) }
     {
         match self {
-            Held::Plan(plan) => Ok(&plan.plan),
+            Held::Plan(plan) => Ok(plan),
             _ => Err(Refusal::Kind),
         }
     }
@@ -62,32 +47,6 @@ impl Held {
         match self {
             Held::Fault(text) => {
                 *line = Bytes::of(text.as_slice());
-                Ok(())
-            }
-            _ => Err(Refusal::Kind),
-        }
-    }
-
-    /// Tells the number of the refusal whose line it holds.
-    pub fn tell_reason(&self, reason: &mut Reason) -> Result<(), Refusal>
-        ensures { Tells IsReason (fault_in self.now) reason.old (status_of result) reason.new }
-    {
-        match self {
-            Held::Fault(text) => {
-                *reason = Reason::of_line(text.as_slice());
-                Ok(())
-            }
-            _ => Err(Refusal::Kind),
-        }
-    }
-
-    /// Lends the lines of JSON that it holds.
-    pub fn lend_text(&self, text: &mut Bytes) -> Result<(), Refusal>
-        ensures { Tells AreLent (text_in self.now) text.old (status_of result) text.new }
-    {
-        match self {
-            Held::Text(lines) => {
-                *text = Bytes::of(lines.as_slice());
                 Ok(())
             }
             _ => Err(Refusal::Kind),
@@ -137,7 +96,7 @@ impl Held {
         }
     }
 
-    /// Lends the path of the manifest list of what was selected, or is to be audited.
+    /// Lends the path of the manifest list of what was selected.
     pub fn lend_list(&self, path: &mut Bytes) -> Result<(), Refusal>
         ensures { Tells AreLent (list_in self.now) path.old (status_of result) path.new }
     {
@@ -146,28 +105,24 @@ impl Held {
                 *path = Bytes::of(answer.list());
                 Ok(())
             }
-            Held::Subject(subject) => {
-                *path = Bytes::of(subject.list.as_bytes());
-                Ok(())
-            }
             _ => Err(Refusal::Kind),
         }
     }
 
-    /// Tells how many manifests a scan or an audit wants.
+    /// Tells how many manifests a scan wants.
     pub fn count_wanted(&self, count: &mut usize) -> Result<(), Refusal>
         ensures { Tells IsCount (count_of (wanted_in self.now)) count.old (status_of result) count.new }
     {
-        *count = self.wanted()?.len();
+        *count = self.scan()?.scan().wanted().len();
         Ok(())
     }
 
-    /// Lends the path of a manifest that a scan or an audit wants.
+    /// Lends the path of a manifest that a scan wants.
     pub fn lend_wanted(&self, i: usize, path: &mut Bytes) -> Result<(), Refusal>
         ensures { Tells AreLent (path_of (at_place (wanted_in self.now) i)) path.old (status_of result)
             path.new }
     {
-        match self.wanted()?.get(i) {
+        match self.scan()?.scan().wanted().get(i) {
             Some(row) => {
                 *path = Bytes::of(row.path.as_bytes());
                 Ok(())
@@ -227,14 +182,14 @@ impl Held {
 
     /// Lends a partition value of a data file of a plan.
     pub fn lend_value(&self, i: usize, k: usize, value: &mut Value) -> Result<(), Refusal>
-        ensures { Tells IsTyped (value_at (plan_in self.now) i k) value.old (status_of result) value.new }
+        ensures { Tells IsCell (at_place (tuple_of (at_place (lines_in self.now) i)) k) value.old
+            (status_of result) value.new }
     {
-        let plan = self.typed()?;
-        let lines = plan.plan.lines();
+        let lines = self.plan()?.lines();
         if lines.len() <= i {
             return Err(Refusal::PastEnd);
         }
-        lend_cell(plan.types.as_slice(), &lines.line(i).file(), k, value)
+        lend_cell(lines.line(i).file().tuple(), k, value)
     }
 
     /// Tells how many delete files a plan has.
@@ -261,12 +216,11 @@ impl Held {
     pub fn lend_placed_value(&self, n: usize, k: usize, value: &mut Value) -> Result<(), Refusal>
         ensures { OfPlaced (TellsDeleteValue n k) self.now value.old (status_of result) value.new }
     {
-        let plan = self.typed()?;
-        let placed = plan.plan.lines().placed_files();
+        let placed = self.plan()?.lines().placed_files();
         if placed.count_deletes() <= n {
             return Err(Refusal::PastEnd);
         }
-        lend_cell(plan.types.as_slice(), &placed.delete(n), k, value)
+        lend_cell(placed.delete(n).tuple(), k, value)
     }
 }
 
@@ -310,28 +264,13 @@ fn lend_delete(
     Ok(())
 }
 
-/// The type at a place; none where it is not known.
-fn type_at(types: &[Option<ColumnType>], k: usize) -> Option<ColumnType>
-    ensures { result ≡ type_at types.now k }
+/// Lends one of some partition values.
+fn lend_cell(cells: &[Cell], k: usize, value: &mut Value) -> Result<(), Refusal>
+    ensures { Tells IsCell (or_past (slice_get cells.now k)) value.old (status_of result) value.new }
 {
-    match types.get(k) {
-        Some(known) => *known,
-        None => None,
-    }
-}
-
-/// Lends a partition value of a file, of which the types of the specs tell the type.
-fn lend_cell(
-    types: &[SpecTypes],
-    file: &PlanFile<'_>,
-    k: usize,
-    value: &mut Value,
-) -> Result<(), Refusal>
-    ensures { Tells IsTyped (value_of types.now file.now k) value.old (status_of result) value.new }
-{
-    match file.tuple().get(k) {
+    match cells.get(k) {
         Some(cell) => {
-            *value = Value::of(cell, type_at(types_of(types, file.spec_id()), k));
+            *value = Value::of(cell);
             Ok(())
         }
         None => Err(Refusal::PastEnd),

@@ -2,33 +2,18 @@
 
 ghost use Rattle.std.specs.Prelude.{◌≡◌};
 ghost use Rattle.contract_words.specs.Outcome.{Gives};
-ghost use Rattle.icescan_c.specs.Calls.{Finishes, Hands, Merges, Starts, Takes};
-ghost use Rattle.icescan_c.specs.Making.{Holds, Makes, asked, auditing, finished, handing, made, opening, relaxing};
-ghost use Rattle.icescan_c.specs.Making.{started, telling_audit, telling_columns};
+ghost use Rattle.icescan_c.specs.Calls.{Finishes, Merges, Starts, Takes};
+ghost use Rattle.icescan_c.specs.Making.{Holds, Makes, asked, finished, relaxing, started};
 
 use crate::held::Held;
 use crate::questions::{Answer, SharedScan};
 use crate::states::State;
 use contract_words::Items;
-use icescan_audit::{HandedAudit, Subject, select_subject};
-use icescan_c_requests::{Refusal, columns_json, fault_line};
+use icescan_c_requests::{Refusal, fault_line};
 use icescan_relaxed::relax_request;
 use icescan_text::{Request, RunFault};
 use std::alloc::Global;
 use std::mem::replace;
-
-/// What is made of a table's metadata and a request.
-#[derive(Clone, Copy)]
-pub enum Making {
-    /// What the request selects, to be scanned.
-    Scan,
-    /// The request with its filter relaxed.
-    Relaxed,
-    /// The columns that a filter of the snapshot names.
-    Columns,
-    /// The snapshot, to be audited.
-    Audit,
-}
 
 /// What a request selects of the table whose metadata these are the bytes of.
 #[tactic(auto, unfolding(crate::specs::Making::asked))]
@@ -40,44 +25,10 @@ fn asked(alloc: Global, metadata: &[u8], request: Request) -> Result<Held, RunFa
 
 /// The request whose filter is relaxed, of the table whose metadata these are the bytes of.
 #[tactic(auto, unfolding(crate::specs::Making::relaxing))]
-fn relaxed(alloc: Global, metadata: &[u8], request: Request) -> Result<Held, RunFault>
-    ensures { Gives RunFault.Memory (λ held. held) result (relaxing metadata.now request) }
+fn relaxed(alloc: Global, metadata: &[u8], request: &Request) -> Result<Held, RunFault>
+    ensures { Gives RunFault.Memory (λ held. held) result (relaxing metadata.now request.now) }
 {
-    let made = relax_request(alloc, metadata, &request);
-    drop(request);
-    Ok(Held::Relaxed(made?))
-}
-
-/// The columns that a filter of the request's snapshot names, of the table whose metadata these are the bytes of.
-#[tactic(auto, unfolding(crate::specs::Making::telling_columns))]
-fn told_columns(alloc: Global, metadata: &[u8], request: Request) -> Result<Held, RunFault>
-    ensures { Gives RunFault.Memory (λ held. held) result (telling_columns metadata.now request) }
-{
-    let text = columns_json(alloc, metadata, &request.target);
-    drop(request);
-    Ok(Held::Text(text?))
-}
-
-/// The request's snapshot to be audited, of the table whose metadata these are the bytes of.
-#[tactic(auto, unfolding(crate::specs::Making::auditing))]
-fn audited(alloc: Global, metadata: &[u8], request: Request) -> Result<Held, RunFault>
-    ensures { Gives RunFault.Memory (λ held. held) result (auditing metadata.now request) }
-{
-    let subject = select_subject(alloc, metadata, &request.target);
-    drop(request);
-    Ok(Held::Subject(subject?))
-}
-
-/// What is asked to be made of the table whose metadata these are the bytes of.
-fn made(alloc: Global, making: Making, metadata: &[u8], request: Request) -> Result<Held, RunFault>
-    ensures { Gives RunFault.Memory (λ held. held) result (made making metadata.now request) }
-{
-    match making {
-        Making::Scan => asked(alloc, metadata, request),
-        Making::Relaxed => relaxed(alloc, metadata, request),
-        Making::Columns => told_columns(alloc, metadata, request),
-        Making::Audit => audited(alloc, metadata, request),
-    }
+    Ok(Held::Relaxed(relax_request(alloc, metadata, request)?))
 }
 
 /// The scan of what was selected, whose manifest list these are the bytes of.
@@ -88,36 +39,12 @@ fn started(alloc: Global, answer: Answer, list: &[u8]) -> Result<Held, RunFault>
     Ok(Held::Scan(SharedScan::start(alloc, answer, list)?))
 }
 
-/// The audit of a snapshot whose manifest list these are the bytes of.
-#[tactic(auto, unfolding(crate::specs::Making::opening))]
-fn opened(alloc: Global, subject: Subject, list: &[u8]) -> Result<Held, RunFault>
-    ensures { Gives RunFault.Memory (λ held. held) result (opening subject list.now) }
-{
-    Ok(Held::Audit(HandedAudit::open(alloc, subject, list)?))
-}
-
-/// The audit with the next manifest, which has these bytes.
-#[tactic(auto, unfolding(crate::specs::Making::handing))]
-fn handed(alloc: Global, audit: HandedAudit, manifest: &[u8]) -> Result<Held, RunFault>
-    ensures { Gives RunFault.Memory (λ held. held) result (handing audit manifest.now) }
-{
-    Ok(Held::Audit(audit.take(alloc, manifest)?))
-}
-
-/// What an audit found.
-#[tactic(auto, unfolding(crate::specs::Making::telling_audit))]
-fn told_audit(alloc: Global, audit: HandedAudit) -> Result<Held, RunFault>
-    ensures { Gives RunFault.Memory (λ held. held) result (telling_audit audit) }
-{
-    Ok(Held::Text(audit.into_json(alloc)?))
-}
-
 /// The plan of what a state took.
 #[tactic(auto, unfolding(crate::specs::Making::finished))]
-fn finished(alloc: Global, state: State) -> Result<Held, RunFault>
+fn finished(state: State) -> Result<Held, RunFault>
     ensures { Gives RunFault.Memory (λ held. held) result (finished state) }
 {
-    Ok(Held::Plan(state.into_plan(alloc)?))
+    Ok(Held::Plan(state.into_plan()?))
 }
 
 impl Held {
@@ -149,17 +76,20 @@ impl Held {
         }
     }
 
-    /// Holds what is made of a table's metadata and a request, or the line of the fault.
-    pub fn ask(
-        &mut self,
-        alloc: Global,
-        making: Making,
-        metadata: &[u8],
-        request: Request,
-    ) -> Result<(), Refusal>
-        ensures { Makes (made making metadata.now request) result self.new }
+    /// Holds what a request selects of a table, or the line of the fault.
+    pub fn ask(&mut self, alloc: Global, metadata: &[u8], request: Request) -> Result<(), Refusal>
+        ensures { Makes (asked metadata.now request) result self.new }
     {
-        self.hold(alloc, made(alloc, making, metadata, request))
+        self.hold(alloc, asked(alloc, metadata, request))
+    }
+
+    /// Holds the request whose filter is relaxed, or the line of the fault.
+    pub fn relax(&mut self, alloc: Global, metadata: &[u8], request: Request) -> Result<(), Refusal>
+        ensures { Makes (relaxing metadata.now request) result self.new }
+    {
+        let made = relaxed(alloc, metadata, &request);
+        drop(request);
+        self.hold(alloc, made)
     }
 
     /// Holds the scan of what was selected, or the line of the fault. `Kind` where it held no selection.
@@ -168,7 +98,6 @@ impl Held {
     {
         match replace(self, Held::Nothing) {
             Held::Selection(answer) => self.hold(alloc, started(alloc, answer, list)),
-            Held::Subject(subject) => self.hold(alloc, opened(alloc, subject, list)),
             held => {
                 self.set(held);
                 Err(Refusal::Kind)
@@ -183,26 +112,6 @@ impl Held {
         match self {
             Held::State(state) => state.take(i, manifest),
             _ => Err(Refusal::Kind),
-        }
-    }
-
-    /// Hands the manifest of the next row to an audit, or holds the line of the fault. `Kind` where it held none, and
-    /// `PastEnd` where each row's was handed in.
-    pub fn hand(&mut self, alloc: Global, manifest: &[u8]) -> Result<(), Refusal>
-        ensures { Hands manifest.now self.old result self.new }
-    {
-        match replace(self, Held::Nothing) {
-            Held::Audit(audit) => match audit.rows().get(audit.handed()) {
-                Some(_) => self.hold(alloc, handed(alloc, audit, manifest)),
-                None => {
-                    self.set(Held::Audit(audit));
-                    Err(Refusal::PastEnd)
-                }
-            },
-            held => {
-                self.set(held);
-                Err(Refusal::Kind)
-            }
         }
     }
 
@@ -237,8 +146,7 @@ impl Held {
         ensures { Finishes self.old result self.new }
     {
         match replace(self, Held::Nothing) {
-            Held::State(state) => self.hold(alloc, finished(alloc, state)),
-            Held::Audit(audit) => self.hold(alloc, told_audit(alloc, audit)),
+            Held::State(state) => self.hold(alloc, finished(state)),
             held => {
                 self.set(held);
                 Err(Refusal::Kind)

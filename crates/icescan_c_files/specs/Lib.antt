@@ -1,4 +1,3 @@
 pub mod Files
 pub mod Lent
-pub mod Types
 pub mod Values

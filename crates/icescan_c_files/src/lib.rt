@@ -3,8 +3,6 @@
 
 mod file;
 mod value;
-mod value_type;
 
 pub use file::File;
 pub use value::Value;
-pub use value_type::ValueType;

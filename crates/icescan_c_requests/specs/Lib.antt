@@ -1,4 +1,2 @@
-pub mod Reasons
 pub mod Requests
 pub mod Statuses
-pub mod Texts
