@@ -69,6 +69,7 @@ plan_more gives more wider path request format.Json o o' w =
           selection = typed.2.selection;
           asked = typed.2.asked;
           types_are = typed.2.types_are;
+          residual_is = typed.2.residual_is;
         },
       ),
       w.2,

@@ -22,8 +22,8 @@ pub fn json_answers_are_plans()
         plan_answered (typed_list_answer world list) ≡ list_answer world list }
 {}
 
-/// The JSON of a plan, where the numbers of its files fit 64 bits and its filter can be read, tells the plan to a client that reads it; so the
-/// JSON that answers a request tells the plan that the request asks for.
+/// The JSON of a plan, where the numbers of its files fit 64 bits and its filter can be read, tells the plan to a client
+/// that reads it; so the JSON that answers a request tells the plan that the request asks for.
 pub fn json_answers_tell_plans()
     ensures plan { (typed : TypedPlan) (text : List ℕ) (json : IsJsonOfPlan typed text) →
         CanBeRead json.filter → HasFittingNumbers json.files → TellsPlan typed.plan text }

@@ -18,8 +18,8 @@ returns-clause-ran g c = untold_count_ran (failing_unread (g.W.Sink.may_fail c.a
 
 pub returns-clause-given : goal.returns-clause-given
 returns-clause-given g c =
-    let path = c.as_str.result.now in
+    let path = c.as_str-path.result.now in
     let wrote = audits_below (g.S.Folders.gives c.args.system.now.folders.now) c.args.table.now.source.now _
     c.in_ok-files.ensures.given c.args.format path c.args.workers c.audit_all_file-answer.result _ _
     c.audit_all_file-answer.ensures.given in
-    rw c.as_str.ensures at wrote
+    rw c.as_str-path.ensures at wrote
