@@ -166,10 +166,11 @@ pub fn write_typed_plan<S: Sink>(
 /// as it is made, in pieces of some 64 KiB.
 ///
 /// The partition values have the types of the specs, whose fields have the types of their columns in the schema that is
-/// asked: days are dates. Each task has the filter that the rows of its data file are still to meet. A value that isn't of its type, and one of which no type is known, as without specs, is
+/// asked: days are dates. A value that isn't of its type, and one of which no type is known, as without specs, is
 /// written as what it is: a boolean, a number, a text, or the hexadecimal digits of its bytes. A year outside 0000 to
-/// 9999 has a sign. All delete files of the plan stand in the list, those too that apply to no data file; but none
-/// where no data file stands, which clients refuse.
+/// 9999 has a sign. Each task has the filter that the rows of its data file are still to meet. All delete files of the
+/// plan stand in the list, those too that apply to no data file; but none where no data file stands, which clients
+/// refuse.
 ///
 /// It refuses when out of memory, and then nothing was written, or where a write fails, and then a front of the text
 /// was.
