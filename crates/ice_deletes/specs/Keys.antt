@@ -4,6 +4,7 @@ use Rattle.std.specs.Option.{option_copied}
 use Rattle.ice_value.specs.Applying.{DeleteKey}
 use Rattle.ice_deletes.specs.declared.record.Record.{Record}
 use Rattle.ice_deletes.specs.declared.delete.Delete.{Delete}
+use Rattle.ice_deletes.specs.declared.keyed.Keyed.{Keyed}
 use Rattle.ice_deletes.specs.declared.search_key.SearchKey.{SearchKey}
 use Rattle.ice_deletes.specs.Groups.{SortKey}
 
@@ -30,6 +31,10 @@ key_in d = record {
 -- a delete file with its number
 abbrev pub entry_of : Delete → ℕ × DeleteKey
 entry_of d = (d.number, key_in d)
+
+-- a record with its number
+abbrev pub entry_of_keyed : Keyed → ℕ × DeleteKey
+entry_of_keyed k = (k.number, key_of k.file.now)
 
 abbrev pub sought : SearchKey → SortKey
 sought k = record {

@@ -6,6 +6,7 @@ mod finder;
 mod group;
 mod growth;
 mod index;
+mod keyed;
 mod laws;
 mod merging;
 mod numbers;

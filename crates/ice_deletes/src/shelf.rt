@@ -12,6 +12,7 @@ ghost use Rattle.ice_deletes.specs.declared.delete.Delete.{Delete};
 use crate::delete::Delete;
 use crate::group::Group;
 use crate::growth::Growth;
+use crate::keyed::deletes_of;
 use crate::merging::{merge, put_numbers};
 use crate::record::Record;
 use crate::search_key::SearchKey;
@@ -24,20 +25,6 @@ pub struct Shelf {
     pub deletes: Vec<Delete>,
     /// Their numbers, in the same order.
     pub numbers: Vec<usize>,
-}
-
-/// The records of the group with their numbers.
-fn collected(alloc: Global, records: &[Record], group: Group) -> Result<Vec<Delete>, AllocError>
-    ensures { IfOk result (λ deletes. map entry_of deletes.items
-        ≡ filter (λ e. is_in group e.1) (enumerate_from 0 (map key_of records.now))) }
-{
-    let mut deletes = Vec::new(alloc);
-    'records: for (number, file) in records.iter().enumerate() {
-        if group.holds(file) {
-            deletes.push(Delete::new(alloc, file, number)?)?;
-        }
-    }
-    Ok(deletes)
 }
 
 /// Puts the earlier ones first.
@@ -68,7 +55,7 @@ impl Shelf {
             (filter (λ e. is_in group e.1) (enumerate_from 0 (map key_of records.now)))
             (map entry_of shelf.deletes.items)) }
     {
-        let mut deletes = collected(alloc, records, group)?;
+        let mut deletes = deletes_of(alloc, records, group)?;
         sort(&mut deletes, group)?;
         let numbers = numbers_of(alloc, &deletes)?;
         Ok(Shelf {

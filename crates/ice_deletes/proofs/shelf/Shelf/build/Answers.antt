@@ -1,8 +1,6 @@
-use Rattle.std.proofs.Common.{◌≡◌, true, ℕ, List, map, refl, ap, ◌∙◌, subst}
+use Rattle.std.proofs.Common.{◌≡◌, true, map, refl, ap, ◌∙◌}
 use Rattle.std.specs.List.{enumerate_from}
-use Rattle.std.specs.List.Sorted.{IsPermutation}
-use Rattle.std.proofs.lemmas.List.Sorted.{All-permutation, IsPermutation-map}
-use Rattle.ice_value.specs.Applying.{DeleteKey}
+use Rattle.std.proofs.lemmas.List.Sorted.{All-permutation, IsPermutation-map, IsPermutation-trans}
 use Rattle.ice_deletes.specs.declared.delete.Delete.{Delete}
 use Rattle.ice_deletes.specs.Keys.{key_of, key_in, entry_of}
 use Rattle.ice_deletes.specs.Groups.{is_in}
@@ -21,6 +19,6 @@ returns-clause-kept c = record {
 
 pub returns-clause-filed : goal.returns-clause-filed
 returns-clause-filed c =
-    let P : List (ℕ × DeleteKey) → Type 0 = λ es. IsPermutation es (map entry_of c.sort.new.deletes.items) in
-    subst P c.in_ok-deletes.ensures (IsPermutation-map entry_of c.in_ok-deletes.deletes.items c.sort.new.deletes.items
+    IsPermutation-trans _ (map entry_of c.in_ok-deletes.deletes.items) (map entry_of c.sort.new.deletes.items)
+    c.in_ok-deletes.ensures (IsPermutation-map entry_of c.in_ok-deletes.deletes.items c.sort.new.deletes.items
     c.in_ok-sort.ensures.same)
