@@ -8,8 +8,8 @@ use Rattle.ice_state.specs.Readings.{Reading}
 use Rattle.ice_state.specs.Scans.{Scanned}
 use Rattle.ice_state.specs.Specs.{spec_of}
 use Rattle.ice_state.specs.Contents.{Content, World, slot_of, slots_of, content, add, or_else, took_at, took}
-use Rattle.ice_state.specs.Contents.{HasBytesAt, HasBytes}
-use Rattle.ice_state.specs.Parts.{OfSpec, reading_by, with_row}
+use Rattle.ice_state.specs.Contents.{HasBytesAt, HasBytes, with_row}
+use Rattle.ice_state.specs.Parts.{OfSpec, reading_by}
 use Rattle.ice_state.proofs.OfSpecs.{reading_is}
 
 -- a row that was taken stays as it is

@@ -21,11 +21,11 @@ use Rattle.ice_state.specs.declared.kept.indexed.IndexedDeletes.{IndexedDeletes}
 use Rattle.ice_state.specs.declared.kept.segments.FileNumber.{FileNumber}
 use Rattle.ice_state.specs.declared.kept.taken.Taken.{Taken}
 use Rattle.ice_state.specs.Applying.{delete_key_of}
-use Rattle.ice_state.specs.Contents.{Content, is_row_taken}
+use Rattle.ice_state.specs.Contents.{Content, is_row_taken, with_row}
 use Rattle.ice_state.specs.Joins.{join}
 use Rattle.ice_state.specs.KeptDeletes.{AreDeletes, AreDeletesOf, HasPlaces, IsIndexOf, IsState}
 use Rattle.ice_state.specs.Outcomes.{entries_in, kept_in}
-use Rattle.ice_state.specs.Parts.{with_row, gains, AreApart, holds_deletes}
+use Rattle.ice_state.specs.Parts.{gains, AreApart, holds_deletes}
 use Rattle.ice_state.specs.Readings.{Reading}
 use Rattle.ice_state.specs.Segments.{Segmented, entry_at, AreKept, IsKept, entries_at, Keeps, StandsBehind}
 use Rattle.ice_state.specs.Slots.{contents}

@@ -2,9 +2,9 @@
 use Rattle.std.proofs.Common.{◌≡◌, ◌<◌, ◌≤◌, ℕ, zero, suc, List, [], ◌∷◌, ◌++◌, refl, sym, ap, ◌∙◌, Bool, true, false}
 use Rattle.std.proofs.Common.{length, get_or, drop, arith, Option, Some, None, is_some, ◌&&◌}
 use Rattle.ice_state.specs.Readings.{Reading}
-use Rattle.ice_state.specs.Contents.{Content, World, content, or_else}
+use Rattle.ice_state.specs.Contents.{Content, World, content, or_else, with_row}
 use Rattle.ice_state.specs.Joins.{join, either, IsNoGain, TookAllOf}
-use Rattle.ice_state.specs.Parts.{with_row, gain_of, gains, is_gain, IsApart, AreApart}
+use Rattle.ice_state.specs.Parts.{gain_of, gains, is_gain, IsApart, AreApart}
 use Rattle.ice_state.specs.Scans.{Scanned}
 use Rattle.ice_state.proofs.Joins.{join-content}
 

@@ -17,6 +17,7 @@ pub mod KeyedPaths
 pub mod Keys
 pub mod Lent
 pub mod LinesAt
+pub mod MovedPaths
 pub mod Named
 pub mod NeighbourLines
 pub mod OfSpecs

@@ -9,11 +9,11 @@ use Rattle.ice_manifest_reading.specs.declared.entry.Entry.{Entry}
 use Rattle.ice_manifest_reading.specs.declared.entry.Live.{Live}
 use Rattle.ice_manifest_reading.specs.Collecting.{behind}
 use Rattle.ice_manifest_reading.specs.Manifests.{live_of, kept_of}
-use Rattle.ice_state.specs.Contents.{Content, is_row_taken, took_at, manifest_of, live_by, reading}
+use Rattle.ice_state.specs.Contents.{Content, is_row_taken, took_at, manifest_of, live_by, reading, with_row}
 use Rattle.ice_state.specs.Pruning.{Pruner, keeps}
+use Rattle.ice_state.specs.Readings.{Reading}
 use Rattle.ice_state.specs.Readings.{Good, Bad}
-use Rattle.ice_state.specs.Parts.{spec_at}
-use Rattle.ice_state.specs.Scans.{Scanned}
+use Rattle.ice_state.specs.Scans.{Scanned, spec_at}
 use Rattle.ice_state.specs.Specs.{spec_of}
 
 -- a row that was taken stays as it is
@@ -24,6 +24,12 @@ taken_stays scan (t ∷ ss) [] i bytes k = refl
 taken_stays scan (Some x ∷ ss) (r ∷ rs) zero bytes k = refl
 taken_stays scan (None ∷ ss) (r ∷ rs) zero bytes k = absurd cc
 taken_stays scan (t ∷ ss) (r ∷ rs) (suc i) bytes k = ap (λ x. t ∷ x) (taken_stays scan ss rs i bytes k)
+
+pub taken_row_stays : (c : Content) (i : ℕ) (r : Reading) → is_row_taken c i ≡ true → c ≡ with_row c i r
+taken_row_stays [] i r k = refl
+taken_row_stays (Some x ∷ ss) zero r k = refl
+taken_row_stays (None ∷ ss) zero r k = absurd cc
+taken_row_stays (t ∷ ss) (suc i) r k = ap (λ x. t ∷ x) (taken_row_stays ss i r k)
 
 same_row : (rows : List Row) (i : ℕ) (row here : Row) → slice_get rows i ≡ Some row → here ≡ get_or rows i here
     → row ≡ here

@@ -88,6 +88,12 @@ abbrev pub or_else : Option Reading → Option Reading → Option Reading
 or_else (Some r) other = Some r
 or_else None other = other
 
+-- the content with one more row, by what it gave
+abbrev pub with_row : Content → ℕ → Reading → Content
+with_row [] i r = []
+with_row (s ∷ ss) zero r = or_else s (Some r) ∷ ss
+with_row (s ∷ ss) (suc i) r = s ∷ with_row ss i r
+
 abbrev pub took_at : Scanned → Content → List Row → ℕ → List ℕ → Content
 took_at scan [] rows i bytes = []
 took_at scan (s ∷ ss) [] i bytes = s ∷ ss

@@ -3,6 +3,7 @@ pub mod Applying
 pub mod ByKind
 pub mod Contents
 pub mod Covering
+pub mod Handing
 pub mod Joins
 pub mod KeptDeletes
 pub mod Keys

@@ -1,6 +1,6 @@
 -- What the functions within this crate say of their parts. No public contract cites these words.
-use Rattle.std.specs.Prelude.{◌≡◌, ℕ, zero, suc, Bool, true, false, not, ◌&&◌, List, [], ◌∷◌, Option, Some, None}
-use Rattle.std.specs.Prelude.{option_and_then, slice_get, ℤ, if◌then◌else◌}
+use Rattle.std.specs.Prelude.{◌≡◌, ℕ, Bool, true, false, not, ◌&&◌, List, [], ◌∷◌, Option, Some, None}
+use Rattle.std.specs.Prelude.{slice_get, ℤ, if◌then◌else◌}
 use Rattle.std.specs.Ordering.{int_eq, nat_cmp, is_lt}
 use Rattle.std.specs.List.Sorted.{IsSortedBy}
 use Rattle.contract_words.specs.Sorting.{sorted}
@@ -26,14 +26,9 @@ use Rattle.ice_state.specs.declared.fault.ScanFault.TheVariants.{NoSuchSpec}
 use Rattle.ice_state.specs.PlaceLists.{LinePlaces}
 use Rattle.ice_state.specs.Readings.{Reading}
 use Rattle.ice_state.specs.Readings.{Good, Bad}
-use Rattle.ice_state.specs.Contents.{Content, or_else, reading}
+use Rattle.ice_state.specs.Contents.{Content, reading}
 use Rattle.ice_state.specs.Pruning.{Pruner, holds, summaries_allow}
-use Rattle.ice_state.specs.Scans.{Scanned}
-use Rattle.ice_state.specs.Specs.{spec_of, id_before}
-
--- the spec of the wanted row i
-abbrev pub spec_at : Scanned → ℕ → Option Spec
-spec_at scan i = option_and_then (λ row. spec_of scan.specs row.spec_id) (slice_get scan.wanted i)
+use Rattle.ice_state.specs.Specs.{id_before}
 
 -- the fault is that the first of these rows has no spec
 abbrev pub NamesFirst : ScanFault → List Row → Type 0
@@ -98,12 +93,6 @@ places_of deletes x =
       positions = ascending (numbers_of PositionDeletes deletes x);
       equalities = ascending (numbers_of EqualityDeletes deletes x);
     }
-
--- the content with one more row, by what it gave
-abbrev pub with_row : Content → ℕ → Reading → Content
-with_row [] i r = []
-with_row (s ∷ ss) zero r = or_else s (Some r) ∷ ss
-with_row (s ∷ ss) (suc i) r = s ∷ with_row ss i r
 
 -- what a slot lacks of another
 abbrev pub gain_of : Option Reading → Option Reading → Option Reading

@@ -1,5 +1,6 @@
 -- What a scan reads: Apache Iceberg table spec, version 2, "Manifest Lists" and "Scan Planning".
-use Rattle.std.specs.Prelude.{◌≡◌, ℤ, Bool, false, List, [], ◌∷◌, filter, None, is_none, Result, Ok, Err}
+use Rattle.std.specs.Prelude.{◌≡◌, ℕ, ℤ, Bool, false, List, [], ◌∷◌, filter, Option, None, is_none, option_and_then}
+use Rattle.std.specs.Prelude.{slice_get, Result, Ok, Err}
 use Rattle.std.specs.List.{Contains}
 use Rattle.std.specs.Cmp.Lexicographic.{slice_cmp}
 use Rattle.std.specs.Ordering.{nat_cmp, is_lt}
@@ -18,6 +19,10 @@ pub record Scanned : Type 0 where
   pub wanted : List Row
   pub specs : List Spec
   pub filter : List (Part BoundPredicate)
+
+-- the spec of the wanted row i
+abbrev pub spec_at : Scanned → ℕ → Option Spec
+spec_at scan i = option_and_then (λ row. spec_of scan.specs row.spec_id) (slice_get scan.wanted i)
 
 -- what the scan keeps
 abbrev pub pruner : Scanned → Pruner

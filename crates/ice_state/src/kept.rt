@@ -2,6 +2,7 @@
 
 pub mod deletes;
 pub mod gathering;
+pub mod handing;
 pub mod indexed;
 pub mod merging;
 pub mod ordered;
@@ -10,3 +11,4 @@ pub mod segments;
 pub mod slots;
 pub mod sorting;
 pub mod taken;
+pub mod wide_keys;

@@ -10,6 +10,7 @@ mod plan;
 mod scan;
 
 pub use fault::{FinishFault, ScanFault};
+pub use kept::handing::Given;
 pub use partial::Partial;
 pub use plan::lines::{Line, Lines, PlanFile, PlanFiles};
 pub use plan::placed_files::PlacedFiles;

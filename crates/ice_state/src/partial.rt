@@ -1,19 +1,21 @@
 //! What one worker has read of a scan so far.
 
 ghost use Rattle.std.specs.Prelude.{◌≡◌, ◌<◌, ◌≤◌, ◌↔◌, length, OnOk, OnErr, replicate, None, IfOk, IsOk, IsTrue, List};
-ghost use Rattle.std.specs.Prelude.{Bool, ℕ, vec_len, false, Some, slice_get};
+ghost use Rattle.std.specs.Prelude.{Bool, ℕ, vec_len, false, Some, slice_get, slice_index_or, option_map};
 ghost use Rattle.contract_words.specs.Outcome.{Gives};
 ghost use Rattle.ice_meta.specs.declared.spec.Spec.{Spec};
 ghost use Rattle.ice_manifest_fields.specs.Seen.{result_map};
 ghost use Rattle.ice_manifest_reading.specs.declared.row.Row.{Row};
 ghost use Rattle.ice_manifest_reading.specs.Telling.{told_of};
 ghost use Rattle.ice_state.specs.Contents.{World, IsOf, is_row_taken, took, content, no_row, every_row, add, HasBytes};
-ghost use Rattle.ice_state.specs.Contents.{HasEach, manifest_of};
+ghost use Rattle.ice_state.specs.Contents.{HasEach, manifest_of, with_row};
 ghost use Rattle.ice_state.specs.Outcomes.{outcome};
 ghost use Rattle.ice_state.specs.Refusals.{RanOut};
 ghost use Rattle.ice_state.specs.Covering.{AreCovered};
+ghost use Rattle.ice_state.specs.Handing.{handed, HaveShortPaths};
 ghost use Rattle.ice_state.specs.Joins.{join, either, TookAllOf};
 ghost use Rattle.ice_state.specs.Pruning.{pruner_of};
+ghost use Rattle.ice_state.specs.Readings.{Good, Bad};
 ghost use Rattle.ice_state.specs.Scans.{Scanned, IsScanOf};
 ghost use Rattle.ice_state.specs.Snapshots.{plan_of_snapshot};
 
@@ -23,6 +25,7 @@ use crate::kept::deletes::{
     KeptDeletes, absorbed_behind, absorbed_deletes, with_absorbed, with_gained, with_index_of_all,
     with_taken,
 };
+use crate::kept::handing::{Given, given_by, put_new, taken_of};
 use crate::kept::merging::{gained, has_taken_all_of};
 use crate::kept::segments::Segments;
 use crate::kept::slots::{put_all, put_behind, put_row};
@@ -31,7 +34,7 @@ use crate::laws::filtering;
 use crate::plan::{OwnedPlan, Plan};
 use crate::scan::Scan;
 use avro_file::KnownSchema;
-use ice_manifest_reading::{ManifestFault, Silent, Tell, read_told};
+use ice_manifest_reading::{Entry, ManifestFault, Silent, Tell, read_told};
 use std::alloc::{AllocError, Global};
 use std::marker::Model;
 
@@ -278,6 +281,65 @@ impl Partial {
         );
         put_behind(&mut self.slots, other.slots, before);
         Ok(())
+    }
+
+    /// What the wanted row `i` gave, where it was taken; no row past the last was.
+    pub fn given(&self, i: usize) -> Result<Option<Given<'_>>, AllocError>
+        ensures { IfOk result (λ out. option_map handed out ≡ slice_index_or self.now i None) }
+    {
+        match self.slots.get(i) {
+            Some(Some(taken)) => match given_by(self.alloc, &self.entries, taken) {
+                Ok(given) => Ok(Some(given)),
+                Err(refusal) => Err(refusal),
+            },
+            _ => Ok(None),
+        }
+    }
+
+    /// Puts in that the manifest of the wanted row `i` has these kept entries. Where the row was taken before, nothing
+    /// changes and no memory is needed. A refusal, for want of memory, leaves the state as it was.
+    pub fn put_entries(&mut self, i: usize, entries: &[Entry]) -> Result<(), AllocError>
+        requires row { i < length self.old }
+        requires short { HaveShortPaths entries.now }
+
+        ensures again { IsTrue (is_row_taken self.old i) → IsOk result }
+        ensures still { IsTrue (is_row_taken self.old i) → self.new ≡ self.old }
+        ensures ok { OnOk result (self.new ≡ with_row self.old i (Good entries.now)) }
+        ensures err { OnErr result (self.new ≡ self.old) }
+    {
+        if self.is_taken(i) {
+            return Ok(());
+        }
+        let taken = taken_of(self.alloc, &mut self.entries, entries)?;
+        self.deletes = put_new(
+            self.alloc,
+            &self.entries,
+            &mut self.slots,
+            self.deletes.take(),
+            i,
+            taken,
+        );
+        Ok(())
+    }
+
+    /// Puts in why the manifest of the wanted row `i` can't be read. Where the row was taken before, nothing changes.
+    pub fn put_fault(&mut self, i: usize, fault: ManifestFault)
+        requires { i < length self.old }
+
+        ensures still { IsTrue (is_row_taken self.old i) → self.new ≡ self.old }
+        ensures row { self.new ≡ with_row self.old i (Bad fault) }
+    {
+        if self.is_taken(i) {
+            return;
+        }
+        self.deletes = put_new(
+            self.alloc,
+            &self.entries,
+            &mut self.slots,
+            self.deletes.take(),
+            i,
+            Taken::Bad(fault),
+        );
     }
 
     /// The plan, or what keeps the content from being one.

@@ -2,9 +2,9 @@
 
 ghost use Rattle.std.specs.Prelude.{◌≡◌, ◌<◌, ◌≤◌, ◌↔◌, [], length, OnOk, Some, MatchResult, IfOk, IsTrue};
 ghost use Rattle.contract_words.specs.Outcome.{Gives};
-ghost use Rattle.ice_state.specs.Parts.{spec_at, NamesFirst};
+ghost use Rattle.ice_state.specs.Parts.{NamesFirst};
 ghost use Rattle.ice_state.specs.Pruning.{pruner_of};
-ghost use Rattle.ice_state.specs.Scans.{by_row_path, without_spec, wanted_rows};
+ghost use Rattle.ice_state.specs.Scans.{by_row_path, spec_at, without_spec, wanted_rows};
 
 pub mod pruning;
 pub mod room;
@@ -114,7 +114,7 @@ impl Scan {
     }
 
     /// The spec of the wanted row `i`.
-    pub(crate) fn spec(&self, i: usize) -> &Spec
+    pub fn spec(&self, i: usize) -> &Spec
         requires { i < length self.now.wanted }
         ensures { spec_at self.now i ≡ Some result.now }
     {

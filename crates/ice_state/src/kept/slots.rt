@@ -1,8 +1,8 @@
 //! A slot for each wanted row: what its manifest gave, where it was taken.
 
 ghost use Rattle.std.specs.Prelude.{◌≡◌, ◌<◌, ◌≤◌, ◌++◌, vec_len};
+ghost use Rattle.ice_state.specs.Contents.{with_row};
 ghost use Rattle.ice_state.specs.Joins.{join};
-ghost use Rattle.ice_state.specs.Parts.{with_row};
 ghost use Rattle.ice_state.specs.Segments.{AreBefore, Segmented};
 ghost use Rattle.ice_state.specs.Slots.{contents, given, HasNumbers, HaveNumbers};
 

@@ -1,7 +1,7 @@
 use Rattle.std.proofs.Common.{◌∙◌, ◌≡◌, ◌++◌, ap, sym, subst, arith, ◌<◌, length, option_map, Option, IfSome, List}
 use Rattle.std.proofs.lemmas.Grind.{common_steps}
 use Rattle.ice_state.specs.declared.kept.taken.Taken.{Taken}
-use Rattle.ice_state.specs.Parts.{with_row}
+use Rattle.ice_state.specs.Contents.{with_row}
 use Rattle.ice_state.specs.Slots.{contents, given, HasNumbers, HaveNumbers}
 use Rattle.ice_state.specs.Joins.{join}
 use Rattle.ice_state.proofs.Gains.{put_last, put_none, join-nil, nothing-before}

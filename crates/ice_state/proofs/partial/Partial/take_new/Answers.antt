@@ -2,8 +2,7 @@ use Rattle.std.proofs.Common.{◌∙◌, ◌≡◌, ◌<◌, ◌++◌, ap, subst
 use Rattle.std.proofs.Common.{false}
 use Rattle.std.proofs.lemmas.Result.{err_from_is_err_and}
 use Rattle.ice_manifest_reading.specs.declared.row.Row.{Row}
-use Rattle.ice_state.specs.Contents.{Content, is_row_taken}
-use Rattle.ice_state.specs.Parts.{with_row}
+use Rattle.ice_state.specs.Contents.{Content, is_row_taken, with_row}
 use Rattle.ice_state.specs.Readings.{Reading}
 use Rattle.ice_state.specs.Slots.{contents, given}
 use Rattle.ice_state.proofs.Contents.{with_row-took}

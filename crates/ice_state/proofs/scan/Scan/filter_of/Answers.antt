@@ -1,6 +1,5 @@
 use Rattle.std.proofs.Common.{◌≡◌, ◌<◌, ◌∙◌, ap, sym, arith, length, true, false}
-use Rattle.ice_state.specs.Parts.{spec_at}
-use Rattle.ice_state.specs.Scans.{Scanned}
+use Rattle.ice_state.specs.Scans.{Scanned, spec_at}
 use Rattle.ice_state.specs.Specs.{spec_of}
 use Rattle.ice_state.proofs.Filtered.{found_by, found_none}
 use Rattle.ice_state.proofs.Scans.{has_spec, spec_at-row}

@@ -1,7 +1,6 @@
 use Rattle.std.proofs.Common.{◌≡◌, ◌<◌, ◌∙◌, ap, sym, arith, is_none, length, true, false}
 use Rattle.std.specs.Option.{option_copied}
-use Rattle.ice_state.specs.Parts.{spec_at}
-use Rattle.ice_state.specs.Scans.{Scanned}
+use Rattle.ice_state.specs.Scans.{Scanned, spec_at}
 use Rattle.ice_state.specs.Specs.{spec_of}
 use Rattle.ice_state.proofs.Scans.{has_spec, spec_at-row}
 use Rattle.ice_state.proofs.scan.Scan.spec.Goals as goal
