@@ -1,0 +1,4 @@
+pub mod Written
+pub mod Envelopes
+pub mod Joins
+pub mod Trees
