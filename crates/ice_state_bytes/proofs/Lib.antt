@@ -1,0 +1,11 @@
+pub mod Bodies
+pub mod Honest
+pub mod OfScans
+pub mod Steps
+pub mod Rows
+pub mod Sections
+pub mod States
+pub mod Taken
+pub mod Texts
+pub mod Travels
+pub mod Unions
