@@ -1,4 +1,4 @@
-//! Calls about requests, commits, explanations and changes.
+//! Calls about requests, commits, explanations, changes and filters as JSON.
 
 ghost use Rattle.std.specs.Prelude.{◌≡◌, ℕ, List, Some, IfOk, OnOk};
 ghost use Rattle.icescan_changes.specs.Changes.{file_changes};
@@ -7,13 +7,19 @@ ghost use Rattle.icescan_commits.specs.Commits.{Commitment, Made};
 ghost use Rattle.icescan_commits.specs.GivenCommits.{IsCommitmentOfGiven};
 ghost use Rattle.icescan_requests.specs.Shows.{WroteText, show_of};
 ghost use Rattle.icescan_explain.specs.Fates.{file_verdict};
+ghost use Rattle.ice_filter.specs.Trees.{tree_of};
+ghost use Rattle.icescan_json.specs.Expressions.{expression_json};
+ghost use Rattle.serde_json.specs.Written.{compact_text};
 
 use contract_words::Items;
+use ice_filter::Filter;
 use ice_manifest_reading::Live;
+use ice_meta::Schema;
 use ice_state::{PlanFile, PlanFiles};
 use icescan_changes::FileChange;
 use icescan_explain::{Fate, FilterTests, SpecTests};
 use icescan_files::{Below, Folders, Store};
+use icescan_json::Expression;
 use icescan_print::Sink;
 use icescan_text::{CommitRequest, RunFault};
 use std::alloc::{AllocError, Global};
@@ -80,4 +86,15 @@ pub fn delete_changes<'a>(
     ensures { IfOk result (λ changes. changes ≡ file_changes earlier.now later.now) }
 {
     icescan_changes::file_changes(alloc, earlier, later)
+}
+
+/// The expression of a filter, as a plan's JSON has it.
+pub fn filter_expression(
+    alloc: Global,
+    schema: &Schema,
+    filter: &Filter,
+) -> Result<Expression, AllocError>
+    ensures { IfOk result (λ made. made ≡ compact_text (expression_json schema.now (tree_of filter.now))) }
+{
+    Expression::of_filter(alloc, schema, filter)
 }
