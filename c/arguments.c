@@ -158,8 +158,34 @@ uint32_t icescan_plan_delete_value(icescan_handle *plan, size_t n, size_t k, ice
     return hand_out(proved_icescan_plan_delete_value(plan, n, k, &told), value, size, &told, sizeof told);
 }
 
+uint32_t icescan_plan_json(icescan_handle *plan, icescan_handle *text) {
+    return plan && text ? proved_icescan_plan_json(plan, text) : ICESCAN_NULL;
+}
+
+uint32_t icescan_columns_new(icescan_handle *columns, const uint8_t *metadata, size_t metadata_len, const uint8_t *name,
+                             size_t name_len) {
+    if (!columns || lacks(metadata, metadata_len) || lacks(name, name_len))
+        return ICESCAN_NULL;
+    return proved_icescan_columns_new(columns, some(metadata), metadata_len, some(name), name_len);
+}
+
+uint32_t icescan_columns_new_at(icescan_handle *columns, const uint8_t *metadata, size_t metadata_len,
+                                int64_t snapshot) {
+    if (!columns || lacks(metadata, metadata_len))
+        return ICESCAN_NULL;
+    return proved_icescan_columns_new_at(columns, some(metadata), metadata_len, snapshot);
+}
+
+uint32_t icescan_text(icescan_handle *handle, icescan_bytes *text) {
+    return handle && text ? proved_icescan_text(handle, text) : ICESCAN_NULL;
+}
+
 uint32_t icescan_fault(icescan_handle *handle, icescan_bytes *line) {
     return handle && line ? proved_icescan_fault(handle, line) : ICESCAN_NULL;
+}
+
+uint32_t icescan_reason(icescan_handle *handle, icescan_reason_of *reason) {
+    return handle && reason ? proved_icescan_reason(handle, reason) : ICESCAN_NULL;
 }
 
 void icescan_free(icescan_handle *handle) {

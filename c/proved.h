@@ -33,7 +33,14 @@ uint32_t proved_icescan_plan_value(icescan_handle *plan, size_t i, size_t k, ice
 uint32_t proved_icescan_plan_deletes(icescan_handle *plan, size_t *count);
 uint32_t proved_icescan_plan_delete(icescan_handle *plan, size_t n, icescan_file *file);
 uint32_t proved_icescan_plan_delete_value(icescan_handle *plan, size_t n, size_t k, icescan_value *value);
+uint32_t proved_icescan_plan_json(icescan_handle *plan, icescan_handle *text);
+uint32_t proved_icescan_columns_new(icescan_handle *columns, const uint8_t *metadata, size_t metadata_len,
+                                    const uint8_t *name, size_t name_len);
+uint32_t proved_icescan_columns_new_at(icescan_handle *columns, const uint8_t *metadata, size_t metadata_len,
+                                       int64_t snapshot);
+uint32_t proved_icescan_text(icescan_handle *handle, icescan_bytes *text);
 uint32_t proved_icescan_fault(icescan_handle *handle, icescan_bytes *line);
+uint32_t proved_icescan_reason(icescan_handle *handle, icescan_reason_of *reason);
 void proved_icescan_free(icescan_handle *handle);
 
 #endif

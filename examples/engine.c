@@ -1,7 +1,7 @@
 /* Plans a table with four threads of its own, or as many as -DWORKERS=N says, and prints the text that `icescan plan`
- * prints:
+ * prints, or its JSON:
  *
- *     engine FOLDER PREFIX METADATA [FILTER]
+ *     engine FOLDER PREFIX METADATA [FILTER [json]]
  *
  * FOLDER stands for the front PREFIX of the table's paths; METADATA is the path of its metadata. */
 #include "icescan.h"
@@ -139,22 +139,40 @@ static size_t put_file(icescan_handle *plan, size_t i) {
     return file.positions + file.equalities;
 }
 
+/* Prints each file. */
+static void put_files(icescan_handle *plan) {
+    size_t files = 0, deletes = 0;
+    check(plan, icescan_plan_count(plan, &files));
+    for (size_t i = 0; i < files; i++)
+        deletes += put_file(plan, i);
+    printf("files %zu deletes %zu\n", files, deletes);
+}
+
+/* Prints the plan as JSON. */
+static void put_json(icescan_handle *plan) {
+    icescan_handle json = ICESCAN_NOTHING;
+    icescan_bytes line = ICESCAN_NO_BYTES;
+    check(&json, icescan_plan_json(plan, &json));
+    check(&json, icescan_text(&json, &line));
+    fwrite(line.at, 1, line.len, stdout);
+    icescan_free(&json);
+}
+
 int main(int count, char **words) {
     icescan_handle scan = ICESCAN_NOTHING;
     struct worker workers[WORKERS];
-    size_t files = 0, deletes = 0;
     if (count < 4) {
-        fputs("usage: engine FOLDER PREFIX METADATA [FILTER]\n", stderr);
+        fputs("usage: engine FOLDER PREFIX METADATA [FILTER [json]]\n", stderr);
         return 2;
     }
     folder = words[1], prefix = words[2];
     start(&scan, text(words[3]), text(count > 4 ? words[4] : ""));
     take_all(&scan, workers);
     check(&workers[0].state, icescan_finish(&workers[0].state));
-    check(&workers[0].state, icescan_plan_count(&workers[0].state, &files));
-    for (size_t i = 0; i < files; i++)
-        deletes += put_file(&workers[0].state, i);
-    printf("files %zu deletes %zu\n", files, deletes);
+    if (count > 5 && strcmp(words[5], "json") == 0)
+        put_json(&workers[0].state);
+    else
+        put_files(&workers[0].state);
     for (size_t w = 0; w < WORKERS; w++)
         icescan_free(&workers[w].state);
     icescan_free(&scan);

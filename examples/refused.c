@@ -18,9 +18,18 @@ static void want(const char *what, uint32_t status, uint32_t wanted) {
     }
 }
 
+/* The line that a handle holds begins so, and the refusal's number is the one in it. */
 static void want_line(const char *what, icescan_handle *handle, const char *front) {
     icescan_bytes line = ICESCAN_NO_BYTES;
+    icescan_reason_of reason = {0, 0};
+    char number[16];
     want(what, icescan_fault(handle, &line), ICESCAN_OK);
+    want(what, icescan_reason(handle, &reason), ICESCAN_OK);
+    snprintf(number, sizeof number, "%c%u ", (char)reason.letter, (unsigned)reason.number);
+    if (line.len < 9 + strlen(number) || memcmp(line.at + 9, number, strlen(number)) != 0) {
+        printf("%s: the number is not %s\n", what, number);
+        failures++;
+    }
     if (line.len < strlen(front) || memcmp(line.at, front, strlen(front)) != 0) {
         printf("%s: %.*s", what, (int)line.len, line.at ? (const char *)line.at : "");
         failures++;
@@ -52,6 +61,7 @@ static void nothing(const char *what, icescan_handle *none) {
     icescan_bytes bytes = {text("before"), 6};
     icescan_file file = ICESCAN_NO_FILE;
     icescan_value value = ICESCAN_NO_VALUE;
+    icescan_reason_of reason = {77, 77};
     size_t count = 77;
     file.record_count = value.whole = 77;
     want(what, icescan_scan_list(none, &bytes), ICESCAN_KIND);
@@ -74,8 +84,12 @@ static void nothing(const char *what, icescan_handle *none) {
     want(what, icescan_relax_filter(none, &bytes), ICESCAN_KIND);
     want(what, icescan_relax_count(none, &count), ICESCAN_KIND);
     want(what, icescan_relax_unasked(none, 0, &bytes), ICESCAN_KIND);
+    want(what, icescan_plan_json(none, &other), ICESCAN_KIND);
+    want(what, icescan_text(none, &bytes), ICESCAN_KIND);
     want(what, icescan_fault(none, &bytes), ICESCAN_KIND);
-    if (other.held || bytes.len != 6 || count != 77 || file.record_count != 77 || value.whole != 77)
+    want(what, icescan_reason(none, &reason), ICESCAN_KIND);
+    if (other.held || bytes.len != 6 || count != 77 || file.record_count != 77 || value.whole != 77 ||
+        reason.letter != 77 || reason.number != 77)
         want(what, 1, 0);
 }
 
@@ -84,6 +98,7 @@ static void null(icescan_handle *scan) {
     icescan_bytes bytes = ICESCAN_NO_BYTES;
     icescan_file file = ICESCAN_NO_FILE;
     icescan_value value = ICESCAN_NO_VALUE;
+    icescan_reason_of reason = {0, 0};
     size_t count = 0;
     want("null scan", icescan_scan_new(NULL, text("{"), 1, NULL, 0, NULL, 0), ICESCAN_NULL);
     want("null metadata", icescan_scan_new(scan, NULL, 5, NULL, 0, NULL, 0), ICESCAN_NULL);
@@ -125,6 +140,12 @@ static void null(icescan_handle *scan) {
     want("null file", icescan_plan_delete(scan, 0, NULL, sizeof file), ICESCAN_NULL);
     want("null plan", icescan_plan_delete_value(NULL, 0, 0, &value, sizeof value), ICESCAN_NULL);
     want("null value", icescan_plan_delete_value(scan, 0, 0, NULL, sizeof value), ICESCAN_NULL);
+    want("null plan", icescan_plan_json(NULL, scan), ICESCAN_NULL);
+    want("null text", icescan_plan_json(scan, NULL), ICESCAN_NULL);
+    want("null handle", icescan_text(NULL, &bytes), ICESCAN_NULL);
+    want("null text", icescan_text(scan, NULL), ICESCAN_NULL);
+    want("null handle", icescan_reason(NULL, &reason), ICESCAN_NULL);
+    want("null reason", icescan_reason(scan, NULL), ICESCAN_NULL);
     want("null handle", icescan_fault(NULL, &bytes), ICESCAN_NULL);
     want("null line", icescan_fault(scan, NULL), ICESCAN_NULL);
     icescan_free(NULL);
@@ -175,6 +196,34 @@ static void relaxed(struct file metadata) {
     icescan_free(&made);
 }
 
+/* The columns of a table: what is refused, and that there are some. */
+static void columns(struct file metadata) {
+    icescan_handle made = ICESCAN_NOTHING, other = ICESCAN_NOTHING;
+    icescan_bytes bytes = ICESCAN_NO_BYTES;
+    const char *front = "{\"kind\":\"schema\",";
+    want("null columns", icescan_columns_new(NULL, text("{"), 1, NULL, 0), ICESCAN_NULL);
+    want("null metadata", icescan_columns_new(&made, NULL, 5, NULL, 0), ICESCAN_NULL);
+    want("null name", icescan_columns_new(&made, text("{"), 1, NULL, 1), ICESCAN_NULL);
+    want("null columns", icescan_columns_new_at(NULL, text("{"), 1, 5), ICESCAN_NULL);
+    want("null metadata", icescan_columns_new_at(&made, NULL, 5, 5), ICESCAN_NULL);
+    want("no JSON", icescan_columns_new(&made, text("{]"), 2, NULL, 0), ICESCAN_TABLE);
+    want_line("no JSON", &made, "icescan: M1 ");
+    want("no UTF-8", icescan_columns_new(&made, metadata.bytes, metadata.len, text("\xff"), 1), ICESCAN_ENCODING);
+    want_line("no UTF-8: what was held stays", &made, "icescan: M1 ");
+    want("no such ref", icescan_columns_new(&made, metadata.bytes, metadata.len, text("nowhere"), 7), ICESCAN_TABLE);
+    want_line("no such ref", &made, "icescan: M6 ");
+    want("no such snapshot", icescan_columns_new_at(&made, metadata.bytes, metadata.len, 5), ICESCAN_TABLE);
+    want_line("no such snapshot", &made, "icescan: M7 ");
+    want("a fault is no text", icescan_text(&made, &bytes), ICESCAN_KIND);
+    want("columns", icescan_columns_new(&made, metadata.bytes, metadata.len, NULL, 0), ICESCAN_OK);
+    want("columns", icescan_text(&made, &bytes), ICESCAN_OK);
+    if (bytes.len < strlen(front) || memcmp(bytes.at, front, strlen(front)) != 0)
+        want("columns begin with their schema", 1, 0);
+    want("columns are no fault", icescan_fault(&made, &bytes), ICESCAN_KIND);
+    want("columns are no plan", icescan_plan_json(&made, &other), ICESCAN_KIND);
+    icescan_free(&made);
+}
+
 int main(int count, char **words) {
     if (count != 4)
         return 2;
@@ -191,6 +240,7 @@ int main(int count, char **words) {
     nothing("no handle", &scan);
     null(&scan);
     relaxed(metadata);
+    columns(metadata);
     icescan_free(&scan);
 
     /* What is asked. */

@@ -49,14 +49,19 @@
  * and plan in any order.
  *
  * What is lent by pointer and length is read only. It stays until the next call that changes what the handle holds:
- * icescan_free, icescan_scan_new, icescan_scan_new_at, icescan_relax_new, icescan_relax_new_at, icescan_scan_start,
- * icescan_finish, icescan_state_absorb on the other's handle, and icescan_state_new on the state's handle.
+ * icescan_free, icescan_scan_new, icescan_scan_new_at, icescan_relax_new, icescan_relax_new_at, icescan_columns_new,
+ * icescan_columns_new_at, icescan_scan_start, icescan_finish, icescan_state_absorb on the other's handle,
+ * icescan_state_new on the state's handle, and icescan_plan_json on the text's handle.
  *
  * Bytes that are handed in are read during the call and never after it. The library can't tell whether they are there.
  *
  * What is written to, a count, a file or a value, has something in it before, as 0 or ICESCAN_NO_FILE. A call that is
  * refused leaves it as it was. icescan_file and icescan_value may grow at their ends in later versions: the caller says
  * how large they are, and fields that the library does not know stay as they were.
+ *
+ * Texts. What is read once, and seldom by programs in C alone, is told as the program's own JSON: a handle holds the
+ * text, icescan_text lends it, and docs/USING.md has its members. Columns are lines with an object each, and a plan is
+ * one line.
  *
  * A handle that holds nothing, or was freed, or holds another kind of thing; a number past the end; NULL in place of a
  * handle, of bytes or of what is written to; a text that is no UTF-8; metadata, a list or a manifest that is none: each
@@ -94,7 +99,7 @@ enum {
     ICESCAN_NULL = 10       /* NULL in place of a handle, of bytes, or of what is written to */
 };
 
-/* A scan, a state, a plan, a relaxed filter, or the line of a fault; nothing where `held` is NULL. */
+/* A scan, a state, a plan, a relaxed filter, a text, or the line of a fault; nothing where `held` is NULL. */
 typedef struct {
     void *held;
 } icescan_handle;
@@ -141,19 +146,29 @@ enum {
     ICESCAN_PARQUET = 3
 };
 
-/* A partition value. The field of its spec says what it means: an int, a long, a date, a time or a timestamp is a whole
- * number, of days or microseconds; a uuid, a fixed and a binary are their bytes; a decimal is its unscaled number, in
- * two's complement with the most significant byte first. The bytes of a text and of a byte string are what the table
- * format calls the single-value form; that of a whole number is 4 bytes for an int or a date and else 8, the least
- * significant first. */
+/* The type of a partition value. */
+typedef struct {
+    uint32_t number;           /* as below */
+    uint32_t width;            /* how many digits a decimal has, or bytes a fixed; 0 of another type */
+    uint32_t scale;            /* how many digits of a decimal stand behind the point; 0 of another type */
+} icescan_type;
+
+/* A partition value. Its type says what it means: an int, a long, a date, a time or a timestamp is a whole number, of
+ * days or microseconds; a uuid, a fixed and a binary are their bytes; a decimal is its unscaled number, in two's
+ * complement with the most significant byte first. The bytes of a text and of a byte string are what the table format
+ * calls the single-value form; that of a whole number is 4 bytes for an int or a date and else 8, the least significant
+ * first. The type is that of the field's transform, over the column in the schema by which the filter was read: days
+ * are dates; years, months, hours and buckets are ints. A null has its field's type too. */
 typedef struct {
     icescan_bytes bytes;       /* of a text or of a byte string */
     int64_t whole;             /* a whole number; of a boolean 1 for true and 0 for false */
     uint32_t kind;             /* as below */
+    icescan_type type;
 } icescan_value;
 
-#define ICESCAN_NO_VALUE {{NULL, 0}, 0, 0}
+#define ICESCAN_NO_VALUE {{NULL, 0}, 0, 0, {0, 0, 0}}
 
+/* What a value is kept as. */
 enum {
     ICESCAN_NULL_VALUE = 0,
     ICESCAN_BOOLEAN = 1,
@@ -161,6 +176,32 @@ enum {
     ICESCAN_TEXT = 3,
     ICESCAN_BINARY = 4
 };
+
+/* What it is. */
+enum {
+    ICESCAN_TYPE_UNKNOWN = 0,  /* the column is no longer there, or the transform is not known */
+    ICESCAN_TYPE_BOOLEAN = 1,
+    ICESCAN_TYPE_INT = 2,
+    ICESCAN_TYPE_LONG = 3,
+    ICESCAN_TYPE_FLOAT = 4,
+    ICESCAN_TYPE_DOUBLE = 5,
+    ICESCAN_TYPE_DATE = 6,
+    ICESCAN_TYPE_TIME = 7,
+    ICESCAN_TYPE_TIMESTAMP = 8,
+    ICESCAN_TYPE_TIMESTAMPTZ = 9,
+    ICESCAN_TYPE_STRING = 10,
+    ICESCAN_TYPE_UUID = 11,
+    ICESCAN_TYPE_FIXED = 12,
+    ICESCAN_TYPE_BINARY = 13,
+    ICESCAN_TYPE_DECIMAL = 14
+};
+
+/* The number of a refusal, as F2, by which docs/REFUSALS.md lists it; 0 and 0 of one that has none, as want of memory.
+ * Numbers are never used twice. */
+typedef struct {
+    uint32_t letter;           /* as 'F' */
+    uint32_t number;           /* as 2 */
+} icescan_reason_of;
 
 /* Asks for the snapshot that a branch or tag names, for the current one where the name is empty, under a filter where
  * its text is not empty. `metadata` has the bytes of the table's metadata file. The scan's handle holds what that
@@ -247,9 +288,30 @@ uint32_t icescan_plan_deletes(icescan_handle *plan, size_t *count);
 uint32_t icescan_plan_delete(icescan_handle *plan, size_t n, icescan_file *file, size_t size);
 uint32_t icescan_plan_delete_value(icescan_handle *plan, size_t n, size_t k, icescan_value *value, size_t size);
 
+/* Has a handle hold the plan as the JSON with which an Iceberg REST catalog answers a scan, and which
+ * `icescan plan --format json` prints: one line. Each task has the filter that was handed to icescan_scan_new, as its
+ * residual filter: of a relaxed one the predicates that are not asked are left to the caller. What the text's handle
+ * held before is let go, but stays after a refusal. */
+uint32_t icescan_plan_json(icescan_handle *plan, icescan_handle *text);
+
+/* Tells the columns that a filter of a snapshot may name, and the partition specs: the lines that
+ * `icescan columns --format json` prints. The snapshot is named as for icescan_scan_new and icescan_scan_new_at;
+ * without a name it is the current one, which need not be there. The handle holds the text then, after a refusal what
+ * icescan_scan_new leaves. */
+uint32_t icescan_columns_new(icescan_handle *columns, const uint8_t *metadata, size_t metadata_len, const uint8_t *name,
+                             size_t name_len);
+uint32_t icescan_columns_new_at(icescan_handle *columns, const uint8_t *metadata, size_t metadata_len,
+                                int64_t snapshot);
+
+/* Lends the text that a handle holds. */
+uint32_t icescan_text(icescan_handle *handle, icescan_bytes *text);
+
 /* Lends the line that a handle holds after a call on it that answered ICESCAN_TABLE or ICESCAN_ASKED, with the line
  * feed at its end; no bytes where memory ran out for it. It is the line that the program `icescan` writes then. */
 uint32_t icescan_fault(icescan_handle *handle, icescan_bytes *line);
+
+/* Tells the number of the refusal whose line a handle holds: the first number of the line. */
+uint32_t icescan_reason(icescan_handle *handle, icescan_reason_of *reason);
 
 /* Lets go what a handle holds. A handle that holds nothing, as one that was freed, may be freed again; so may NULL. */
 void icescan_free(icescan_handle *handle);

@@ -13,6 +13,7 @@
 
 Manifests and manifest lists have to be without compression. Rows that are read must still be filtered.
 """
+from ._columns import Column, Columns, PartitionField, columns
 from ._errors import (
     EncodingError,
     Error,
@@ -26,11 +27,13 @@ from ._errors import (
     TableError,
 )
 from ._files import Folder
-from ._plan import DataFile, DeleteFile, Plan, plan
+from ._plan import DataFile, DeleteFile, Plan, plan, plan_json
 
 __version__ = "0.1.0"
 
 __all__ = [
+    "Column",
+    "Columns",
     "DataFile",
     "DeleteFile",
     "EncodingError",
@@ -42,8 +45,11 @@ __all__ = [
     "NullError",
     "OtherScan",
     "OutOfMemory",
+    "PartitionField",
     "PastEnd",
     "Plan",
     "TableError",
+    "columns",
     "plan",
+    "plan_json",
 ]

@@ -26,6 +26,7 @@ def table_of(plan: Plan) -> Any:
         ("format", pyarrow.string()),
         ("partition", pyarrow.list_(pyarrow.string())),
         ("file_sequence_number", pyarrow.uint64()),
+        ("partition_types", pyarrow.list_(pyarrow.string())),
     ]
     deletes = pyarrow.list_(pyarrow.struct([*counts, ("equality_ids", pyarrow.list_(pyarrow.int32())), *more]))
     schema = pyarrow.schema([*counts, ("position_deletes", deletes), ("equality_deletes", deletes), *more])

@@ -1,7 +1,6 @@
 """What a call is refused by: a class for each reason."""
 from __future__ import annotations
 
-import re
 from typing import Dict, Type
 
 
@@ -9,21 +8,16 @@ class Error(Exception):
     """A call of icescan that was refused.
 
     `line` is the line that the program `icescan` writes then, without `icescan: ` before it, or "" where there is
-    none; `status` is the number with which the call of the library ended.
+    none; `reason` is the number of the refusal, as `F2`, by which docs/REFUSALS.md lists it, or ""; `status` is the
+    number with which the call of the library ended.
     """
 
     status = 0
     says = "icescan could not answer"
 
-    def __init__(self, line: str = "") -> None:
+    def __init__(self, line: str = "", reason: str = "") -> None:
         super().__init__(line or self.says)
-        self.line = line
-
-    @property
-    def reason(self) -> str:
-        """The number of the refusal, as `F2`, by which docs/REFUSALS.md lists it; "" where there is no line."""
-        found = re.match(r"[A-Z]+[0-9]+\b", self.line)
-        return found.group() if found else ""
+        self.line, self.reason = line, reason
 
 
 class TableError(Error):

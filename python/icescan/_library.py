@@ -9,13 +9,13 @@ import ctypes.util
 import functools
 import os
 from ctypes import POINTER, Structure, byref, c_char_p, c_int32, c_int64, c_size_t, c_uint32, c_uint64, c_void_p
-from typing import Any, Tuple, Union
+from typing import Any, Optional, Tuple, Union
 
 from ._errors import BY_STATUS, Error, LibraryNotFound
 
 
 class Handle(Structure):
-    """What the library made for a caller: a scan, a state, a plan, or the line of a fault."""
+    """What the library made for a caller: a scan, a state, a plan, a text, or the line of a fault."""
 
     _fields_ = [("held", c_void_p)]
 
@@ -63,10 +63,23 @@ class File(Structure):
     ]
 
 
+class Type(Structure):
+    """The type of a partition value."""
+
+    _fields_ = [("number", c_uint32), ("width", c_uint32), ("scale", c_uint32)]
+
+    def text(self) -> Optional[str]:
+        """The type as the table's metadata writes it; None where it is not known."""
+        name = TYPES[self.number]
+        if name == "fixed":
+            return f"fixed[{self.width}]"
+        return f"decimal({self.width},{self.scale})" if name == "decimal" else name
+
+
 class Value(Structure):
     """A partition value."""
 
-    _fields_ = [("bytes", Bytes), ("whole", c_int64), ("kind", c_uint32)]
+    _fields_ = [("bytes", Bytes), ("whole", c_int64), ("kind", c_uint32), ("type", Type)]
 
     def read(self) -> Union[None, bool, int, str, bytes]:
         """A copy of it."""
@@ -79,11 +92,26 @@ class Value(Structure):
         )[self.kind]()
 
 
+class Reason(Structure):
+    """The letter and the number of a refusal."""
+
+    _fields_ = [("letter", c_uint32), ("number", c_uint32)]
+
+    def text(self) -> str:
+        """Both as one, as F2; "" where there is none."""
+        return f"{chr(self.letter)}{self.number}" if self.letter else ""
+
+
 # The version of the library that this package is made for.
 VERSION = 100
 # The names of formats by their numbers, and the number that stands for none.
 FORMATS = (None, "avro", "orc", "parquet")
 NO_NUMBER = 2**64 - 1
+# The names of types by their numbers.
+TYPES = (
+    *(None, "boolean", "int", "long", "float", "double", "date", "time", "timestamp", "timestamptz", "string"),
+    *("uuid", "fixed", "binary", "decimal"),
+)
 # The statuses after which a handle holds the line of a fault.
 WITH_LINE = (1, 2, 5)
 GIVEN = (c_char_p, c_size_t)
@@ -112,7 +140,12 @@ CALLS = {
     "plan_deletes": (POINTER(c_size_t),),
     "plan_delete": (c_size_t, POINTER(File), c_size_t),
     "plan_delete_value": (c_size_t, c_size_t, POINTER(Value), c_size_t),
+    "plan_json": (POINTER(Handle),),
+    "columns_new": (*GIVEN, *GIVEN),
+    "columns_new_at": (*GIVEN, c_int64),
+    "text": (POINTER(Bytes),),
     "fault": (POINTER(Bytes),),
+    "reason": (POINTER(Reason),),
 }
 
 
@@ -164,15 +197,17 @@ class Held:
         """Calls the function of this name on the handle; a refusal is raised."""
         status = getattr(self.library, "icescan_" + name)(byref(self.handle), *words)
         if status:
-            raise BY_STATUS.get(status, Error)(self.line() if status in WITH_LINE else "")
+            raise BY_STATUS.get(status, Error)(*(self.fault() if status in WITH_LINE else ()))
 
-    def line(self) -> str:
-        """The line of the fault that it holds, as an exception tells it; "" where it holds none."""
-        line = Bytes()
+    def fault(self) -> Tuple[str, str]:
+        """The line of the fault that it holds, as an exception tells it, and the refusal's number; "" where it has
+        none."""
+        line, reason = Bytes(), Reason()
         if self.library.icescan_fault(byref(self.handle), byref(line)):
-            return ""
+            return "", ""
+        self.library.icescan_reason(byref(self.handle), byref(reason))
         text = line.text().rstrip("\n")
-        return text[len("icescan: "):] if text.startswith("icescan: ") else text
+        return text[len("icescan: "):] if text.startswith("icescan: ") else text, reason.text()
 
     def count(self, name: str) -> int:
         """The count that the function of this name tells."""

@@ -3,6 +3,7 @@ from __future__ import annotations
 
 import collections
 import concurrent.futures
+import contextlib
 import ctypes
 import dataclasses
 import os
@@ -32,6 +33,7 @@ class DeleteFile:
     format: Optional[str] = None
     partition: Tuple[Value, ...] = ()
     file_sequence_number: Optional[int] = None
+    partition_types: Tuple[Optional[str], ...] = ()
 
 
 @dataclass(frozen=True)
@@ -39,7 +41,8 @@ class DataFile:
     """A data file that the scan has to read, and the delete files that apply to it, in the order of their paths.
 
     Its counts are as its manifest says. `format` is avro, orc or parquet, or None where the manifest names no such
-    format; `partition` has a value for each field of its partition spec.
+    format; `partition` has a value for each field of its partition spec, and `partition_types` its type, as `date` or
+    `decimal(9,2)`, or None where it is not known.
     """
 
     path: str
@@ -52,6 +55,7 @@ class DataFile:
     format: Optional[str] = None
     partition: Tuple[Value, ...] = ()
     file_sequence_number: Optional[int] = None
+    partition_types: Tuple[Optional[str], ...] = ()
 
 
 @dataclass(frozen=True)
@@ -110,35 +114,87 @@ def plan(
 
     A refusal is raised: `TableError`, `FilterError`, `OutOfMemory`, or what `read` raised.
     """
+    how = Asking(filter, ref, snapshot, folder, prefix, read, workers, relax)
+    with how.planned(metadata) as (held, unasked):
+        return plan_of(held, unasked)
+
+
+def plan_json(
+    metadata: str,
+    *,
+    filter: str = "",
+    ref: Optional[str] = None,
+    snapshot: Optional[int] = None,
+    folder: Union[str, "os.PathLike[str]", None] = None,
+    prefix: str = "",
+    read: Optional[Read] = None,
+    workers: int = 4,
+    relax: bool = False,
+) -> str:
+    """The same plan as the JSON with which an Iceberg REST catalog answers a scan, in one line."""
+    how = Asking(filter, ref, snapshot, folder, prefix, read, workers, relax)
+    with how.planned(metadata) as (held, _), Held(held.library) as text:
+        held.call("plan_json", byref(text.handle))
+        return text.text("text")
+
+
+@dataclass(frozen=True)
+class Asking:
+    """What a plan is asked by."""
+
+    filter: str
+    ref: Optional[str]
+    snapshot: Optional[int]
+    folder: Union[str, "os.PathLike[str]", None]
+    prefix: str
+    read: Optional[Read]
+    workers: int
+    relax: bool
+
+    @contextlib.contextmanager
+    def planned(self, metadata: str) -> Iterator[Tuple[Held, Tuple[str, ...]]]:
+        """The plan of the table whose metadata file is at a path, and the predicates that are not asked."""
+        if self.workers < 1:
+            raise ValueError("there is at least one worker")
+        read = reader_of(self.folder, self.prefix, self.read)
+        asked, unasked = asked_of(metadata, read, self.ref, self.snapshot, self.filter), ()
+        library = loaded(place())
+        if self.relax:
+            asked, unasked = relaxed(library, asked)
+        with started(library, asked, read) as scan, finished(scan, read, self.workers) as held:
+            yield held, unasked
+
+
+def reader_of(folder: Union[str, "os.PathLike[str]", None], prefix: str, read: Optional[Read]) -> Read:
+    """What reads the table's files."""
+    if read is None:
+        return read_local if folder is None else Folder(folder, prefix)
+    if folder is not None or prefix:
+        raise ValueError("read and folder are not given together")
+    return read
+
+
+def asked_of(
+    metadata: str, read: Read, ref: Optional[str], snapshot: Optional[int], filter: Optional[str] = None
+) -> Asked:
+    """What is asked of the table whose metadata file is at a path."""
     if ref is not None and snapshot is not None:
         raise ValueError("ref and snapshot are not given together")
-    if read is not None and (folder is not None or prefix):
-        raise ValueError("read and folder are not given together")
-    if workers < 1:
-        raise ValueError("there is at least one worker")
-    if read is None:
-        read = read_local if folder is None else Folder(folder, prefix)
-    library = loaded(place())
-    asked, unasked = Asked(bytes(read(metadata)), ref, snapshot, filter), ()
-    if relax:
-        asked, unasked = relaxed(library, asked)
-    with started(library, asked, read) as scan:
-        with finished(scan, read, workers) as held:
-            return plan_of(held, unasked)
+    return Asked(bytes(read(metadata)), ref, snapshot, filter)
 
 
 @dataclass(frozen=True)
 class Asked:
-    """What is asked of a table, whose metadata these are the bytes of."""
+    """What is asked of a table, whose metadata these are the bytes of; without a filter of a call that takes none."""
 
     metadata: bytes
     ref: Optional[str]
     snapshot: Optional[int]
-    filter: str
+    filter: Optional[str] = None
 
     def ask(self, held: Held, name: str) -> None:
         """Calls the function of this name, or that for the id of a snapshot."""
-        text = given(self.filter.encode("utf-8", "surrogatepass"))
+        text = () if self.filter is None else given(self.filter.encode("utf-8", "surrogatepass"))
         if self.snapshot is None:
             ref = (self.ref or "").encode("utf-8", "surrogatepass")
             held.call(name, *given(self.metadata), *given(ref), *text)
@@ -239,7 +295,7 @@ def data_file(held: Held, i: int, deletes: List[DeleteFile], used: Set[int]) -> 
         **shared_of(file),
         position_deletes=deletes_of(held, "plan_position", i, file.positions, deletes, used),
         equality_deletes=deletes_of(held, "plan_equality", i, file.equalities, deletes, used),
-        partition=values_of(held, "plan_value", i, file.values),
+        **values_of(held, "plan_value", i, file.values),
     )
 
 
@@ -262,17 +318,18 @@ def delete_file(held: Held, n: int) -> DeleteFile:
     return DeleteFile(
         **shared_of(file),
         equality_ids=file.equality_ids.read(),
-        partition=values_of(held, "plan_delete_value", n, file.values),
+        **values_of(held, "plan_delete_value", n, file.values),
     )
 
 
-def values_of(held: Held, name: str, i: int, count: int) -> Tuple[Value, ...]:
-    """The partition values of a file."""
-    values, value = [], LentValue()
+def values_of(held: Held, name: str, i: int, count: int) -> Dict[str, Any]:
+    """The partition values of a file, and their types."""
+    values, types, value = [], [], LentValue()
     for k in range(count):
         held.call(name, i, k, *told(value))
         values.append(value.read())
-    return tuple(values)
+        types.append(value.type.text())
+    return {"partition": tuple(values), "partition_types": tuple(types)}
 
 
 def shared_of(file: File) -> Dict[str, Any]:

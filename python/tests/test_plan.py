@@ -5,6 +5,7 @@
 """
 import ctypes
 import importlib.util
+import json
 import os
 import sys
 import threading
@@ -109,6 +110,36 @@ class Plans(unittest.TestCase):
             with self.subTest(table):
                 self.assertEqual("".join(lines), expected(table, "partitions"))
 
+    def test_types_of_partitions(self):
+        types = {it.partition_types for it in (*events(), *events().delete_files)}
+        self.assertEqual(types, {(), ("date",), ("date", "int")})
+        self.assertEqual({len(it.partition_types) - len(it.partition) for it in events()}, {0})
+
+    def test_json(self):
+        for name, asked in ASKED.items():
+            plan = events(**asked)
+            text = icescan.plan_json(EVENTS_METADATA, folder=folder_of("events-java"), prefix=EVENTS, **asked)
+            told = json.loads(text)
+            deletes = [it["file-path"] for it in told["delete-files"]]
+            tasks = [
+                (it["data-file"]["file-path"], [deletes[n] for n in it.get("delete-file-references", [])])
+                for it in told["file-scan-tasks"]
+            ]
+            wanted = [(it.path, [d.path for d in it.position_deletes + it.equality_deletes]) for it in plan]
+            with self.subTest(name):
+                self.assertEqual(tasks, wanted)
+
+    def test_json_has_the_filter(self):
+        is_42 = {"type": "eq", "term": "id", "value": 42}
+        for asked, wanted in (
+            ({}, True),
+            ({"filter": "id = 42"}, is_42),
+            ({"filter": "amount > 5 and id = 42", "relax": True}, {"type": "and", "left": True, "right": is_42}),
+        ):
+            text = icescan.plan_json(EVENTS_METADATA, folder=folder_of("events-java"), prefix=EVENTS, **asked)
+            with self.subTest(asked=asked):
+                self.assertEqual(json.loads(text)["file-scan-tasks"][0]["residual-filter"], wanted)
+
     def test_partitions_of_delete_files(self):
         for file in events():
             for delete in file.position_deletes + file.equality_deletes:
@@ -132,6 +163,42 @@ class Plans(unittest.TestCase):
         self.assertEqual(events(relax=True), events())
         tagged = events(ref="eoy", filter="category = 'books' and amount > 5", relax=True)
         self.assertEqual(tagged.unasked, ("amount > 5",))
+
+
+class Columns(unittest.TestCase):
+    def columns(self, **asked):
+        return icescan.columns(EVENTS_METADATA, folder=folder_of("events-java"), prefix=EVENTS, **asked)
+
+    def test_of_a_tag(self):
+        columns = self.columns(ref="eoy")
+        self.assertEqual(
+            [(it.id, it.type, it.compared, it.name) for it in columns][:5],
+            [
+                (1, "long", "yes", "id"),
+                (2, "timestamptz", "yes", "ts"),
+                (3, "string", "yes", "category"),
+                (4, "double", "no", "amount"),
+                (5, "struct", "no", "location"),
+            ],
+        )
+        self.assertEqual((columns.schema_id, len(columns), columns.default_spec_id), (0, 14, 2))
+        self.assertEqual([it.required for it in columns][:3], [True, True, False])
+        bucket = icescan.PartitionField(1001, 1, "bucket[16]", "id_bucket")
+        self.assertEqual((columns.specs[0], columns.specs[2][1:]), ((), (bucket,)))
+
+    def test_names_are_asked(self):
+        for column in self.columns():
+            if column.name and column.compared == "yes":
+                with self.subTest(column.name):
+                    events(filter=f"{column.name} is null")
+
+    def test_refusals(self):
+        for reason, asked in {"M6": {"ref": "nowhere"}, "M7": {"snapshot": 1}}.items():
+            with self.subTest(reason), self.assertRaises(icescan.TableError) as raised:
+                self.columns(**asked)
+            self.assertEqual(raised.exception.reason, reason)
+        with self.assertRaises(ValueError):
+            self.columns(ref="eoy", snapshot=1)
 
 
 class Sizes(unittest.TestCase):

@@ -1,13 +1,14 @@
 #!/usr/bin/env python3
 """c_header.py FILE: writes a program in C that compiles only where `c/proved.h` declares what the crate exports.
 
-It is made from the sources of `crates/icescan_c`, `icescan_c_files` and `icescan_c_lent`, and declares each exported function once
-more, with the types that its parameters have there: a compiler refuses two declarations that differ. Of each struct
-that crosses to C it asserts the size, of each field its type and its place, and of each status of the library's own its
-number. It uses every function that `include/icescan.h` declares, so that the linker refuses one that the library lacks,
-and ends with status 0 where the library has the header's version. Compared here are the names of functions and of their
-parameters, by their order, in the crate, in `c/proved.h` and in `include/icescan.h`, and the version that the header,
-the program and the package for Python have: the status is 1 where they differ.
+It is made from the sources of `crates/icescan_c` and of `icescan_c_files`, `icescan_c_lent` and `icescan_c_requests`,
+and declares each exported function once more, with the types that its parameters have there: a compiler refuses two
+declarations that differ. Of each struct that crosses to C it asserts the size, of each field its type and its place,
+and of each status of the library's own its number. It uses every function that `include/icescan.h` declares, so that
+the linker refuses one that the library lacks, and ends with status 0 where the library has the header's version.
+Compared here are the names of functions and of their parameters, by their order, in the crate, in `c/proved.h` and in
+`include/icescan.h`, and the version that the header, the program and the package for Python have: the status is 1 where
+they differ.
 
 `tools/trials/try_c` compiles, links and runs it.
 """
@@ -17,7 +18,8 @@ import re
 import sys
 
 TOP = os.path.dirname(os.path.dirname(os.path.dirname(os.path.abspath(__file__))))
-SOURCES = sorted(it for name in ("", "_files", "_lent") for it in glob.glob(f"{TOP}/crates/icescan_c{name}/src/*.rt"))
+CRATES = ("icescan_c", "icescan_c_files", "icescan_c_lent", "icescan_c_requests")
+SOURCES = sorted(it for name in CRATES for it in glob.glob(f"{TOP}/crates/{name}/src/*.rt"))
 ENDINGS = f"{TOP}/crates/icescan_c_requests/src/endings.rt"
 HEADER, PROVED = f"{TOP}/include/icescan.h", f"{TOP}/c/proved.h"
 # Where a version stands, as text.
@@ -33,11 +35,13 @@ STRUCTS = {
     "Ids": "icescan_ids",
     "File": "icescan_file",
     "Value": "icescan_value",
+    "ValueType": "icescan_type",
+    "Reason": "icescan_reason_of",
 }
 NUMBERS = {"usize": "size_t", "u32": "uint32_t", "u64": "uint64_t", "i32": "int32_t", "i64": "int64_t"}
 POINTERS = {"*const u8": "const uint8_t *", "*const i32": "const int32_t *"}
-# What a handle holds is nobody's but the library's: the header gives its pointer no type.
-FIELDS = {("Handle", "at"): ("held", "void *")}
+# What a handle holds is nobody's but the library's: the header gives its pointer no type. `type` is a word of Rust.
+FIELDS = {("Handle", "at"): ("held", "void *"), ("Value", "value_type"): ("type", "icescan_type")}
 
 EXPORT = re.compile(r'#\[unsafe\(no_mangle\)\]\s*pub extern "C" fn (\w+)\((.*?)\)(?: -> (\w+))?\s', re.S)
 STRUCT = re.compile(r"#\[repr\(C\)\]\s*(?:#\[derive\([^)]*\)\]\s*)?pub struct (\w+) \{(.*?)\n\}", re.S)

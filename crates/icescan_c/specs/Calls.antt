@@ -5,10 +5,12 @@ use Rattle.icescan_text.specs.declared.fault.RunFault.{RunFault}
 use Rattle.icescan_c.specs.Kept.{Kept}
 use Rattle.icescan_c.specs.Making.{Makes, finished, started}
 use Rattle.icescan_c_requests.specs.Requests.{ReadsTexts}
+use Rattle.icescan_c_requests.specs.Texts.{IsJsonOfAsked}
 use Rattle.icescan_c.specs.States.{TakesOver, TakesRow, untaken}
 use Rattle.icescan_c_requests.specs.Statuses.{status_of}
 use Rattle.icescan_c.specs.declared.held.Held.{Held}
 use Rattle.icescan_c.specs.declared.held.Held.TheVariants as held
+use Rattle.icescan_c.specs.declared.states.ScanPlan.{ScanPlan}
 use Rattle.icescan_c_requests.specs.declared.endings.Refusal.{Refusal}
 use Rattle.icescan_c_requests.specs.declared.endings.Refusal.TheVariants as refusal
 
@@ -54,10 +56,12 @@ abbrev pub Begins : Held → Option Held → Result Unit Refusal → Option Held
 Begins (held.Scan scan) before ended after = ComesToHold (held.State (untaken scan)) before ended after
 Begins other before ended after = Refuses refusal.Kind before ended after
 
-abbrev pub BeginsOf : Option Held → Option Held → ℕ → Option Held → Type 0
-BeginsOf None before status after = (status ≡ status_of (Err refusal.Kind)) × (after ≡ before)
-BeginsOf (Some scan) before status after = (ended : Result Unit Refusal) × (status ≡ status_of ended)
-    × Begins scan before ended after
+-- what a handle comes to hold of what another one holds
+abbrev pub OfOther : (Held → Option Held → Result Unit Refusal → Option Held → Type 0) → Option Held → Option Held → ℕ
+    → Option Held → Type 0
+OfOther works None before status after = (status ≡ status_of (Err refusal.Kind)) × (after ≡ before)
+OfOther works (Some other) before status after = (ended : Result Unit Refusal) × (status ≡ status_of ended)
+    × works other before ended after
 
 abbrev pub IsStateAfter : (Kept → Type 0) → Held → Type 0
 IsStateAfter is (held.State kept) = is kept
@@ -81,3 +85,16 @@ MergesOf (Some other) before status after = OnHandle (Merges other) before statu
 abbrev pub Finishes : Held → Result Unit Refusal → Held → Type 0
 Finishes (held.State kept) ended after = Makes (finished kept) ended after
 Finishes other ended after = Refuses refusal.Kind other ended after
+
+-- ---- plans
+
+-- a plan's JSON, with the filter that was asked
+abbrev pub IsJsonOfScan : ScanPlan → List ℕ → Type 0
+IsJsonOfScan plan = IsJsonOfAsked plan.scan.question.metadata plan.scan.question.request plan.types plan.plan
+
+-- a handle comes to hold it; without memory for it what was held stays
+abbrev pub TellsJson : Held → Option Held → Result Unit Refusal → Option Held → Type 0
+TellsJson (held.Plan plan) before (Ok x) after =
+    (text : List ℕ) × IsJsonOfScan plan text × (after ≡ Some (held.Text text))
+TellsJson (held.Plan plan) before ended after = Refuses refusal.Memory before ended after
+TellsJson other before ended after = Refuses refusal.Kind before ended after

@@ -1,7 +1,10 @@
 -- What is made of the bytes that C hands in.
-use Rattle.std.specs.Prelude.{◌≡◌, ◌⊎◌, ℕ, List, [], Result, Ok, Err}
+use Rattle.std.specs.Prelude.{◌≡◌, ◌⊎◌, ℕ, List, [], map, Result, Ok, Err}
 use Rattle.contract_words.specs.Outcome.{Gives, ◌>>=◌}
 use Rattle.ice_manifest_reading.specs.Lists.{rows_of}
+use Rattle.icescan_columns.specs.Columns.{columns_of}
+use Rattle.icescan_forms.specs.declared.format.Format.TheVariants as format
+use Rattle.icescan_json.specs.Types.{spec_types}
 use Rattle.icescan_relaxed.specs.Requests.{relaxed_request}
 use Rattle.icescan_requests.specs.Selections.{selected}
 use Rattle.ice_state.specs.Outcomes.{outcome}
@@ -16,6 +19,9 @@ use Rattle.icescan_text.specs.declared.request.Request.{Request}
 use Rattle.icescan_c.specs.Kept.{Answered, AskedScan, Kept}
 use Rattle.icescan_c.specs.declared.held.Held.{Held}
 use Rattle.icescan_c.specs.declared.held.Held.TheVariants as held
+use Rattle.icescan_c.specs.declared.states.ScanPlan.{ScanPlan}
+use Rattle.icescan_c.specs.declared.working.Making.{Making}
+use Rattle.icescan_c.specs.declared.working.Making.TheVariants as making
 use Rattle.icescan_c_requests.specs.declared.endings.Refusal.{Refusal}
 use Rattle.icescan_c_requests.specs.declared.endings.Refusal.TheVariants as refusal
 
@@ -36,6 +42,17 @@ relaxing metadata request = do
   made ← relaxed_request metadata request
   Ok (held.Relaxed made)
 
+-- the columns that a filter of the request's snapshot names, and the partition specs, as lines of JSON
+unfoldable pub telling_columns : List ℕ → Request → Result Held RunFault
+telling_columns metadata request = do
+  text ← columns_of format.Json metadata request.target
+  Ok (held.Text text)
+
+abbrev pub made : Making → List ℕ → Request → Result Held RunFault
+made making.Scan metadata request = asked metadata request
+made making.Relaxed metadata request = relaxing metadata request
+made making.Columns metadata request = telling_columns metadata request
+
 -- the scan of what was selected, whose manifest list these are the bytes of
 unfoldable pub scanned : Answered → List ℕ → Result AskedScan RunFault
 scanned answer list = do
@@ -48,10 +65,19 @@ started answer list = do
   scan ← scanned answer list
   Ok (held.Scan scan)
 
--- the plan of what a state took
+-- the plan of what a state took, beside its scan and the types of its partition values
+unfoldable pub planned : Kept → Result ScanPlan RunFault
+planned kept = do
+  plan ← as_run of_finish (outcome kept.scan kept.content)
+  Ok (record {
+    scan = record { question = kept.question; scan = kept.scan };
+    types = map spec_types kept.scan.specs;
+    plan = plan;
+  })
+
 unfoldable pub finished : Kept → Result Held RunFault
 finished kept = do
-  plan ← as_run of_finish (outcome kept.scan kept.content)
+  plan ← planned kept
   Ok (held.Plan plan)
 
 -- the line of a fault is held, or no bytes where memory ran out for it

@@ -5,16 +5,23 @@ use Rattle.ice_manifest_reading.specs.declared.row.Row.{Row}
 use Rattle.ice_state.specs.Lines.{OwnedLine}
 use Rattle.ice_state.specs.PlacedFiles.{PlanPlaces, plan_of}
 use Rattle.ice_value.specs.declared.cell.Cell.{Cell}
+use Rattle.ice_value.specs.declared.column_type.ColumnType.{ColumnType}
+use Rattle.icescan_json.specs.Types.{types_of}
+use Rattle.icescan_json.specs.Values.{type_at}
+use Rattle.icescan_json.specs.declared.types.SpecTypes.{SpecTypes}
 use Rattle.icescan_relaxed.specs.declared.requests.RelaxedRequest.{RelaxedRequest}
+use Rattle.icescan_c_requests.specs.Reasons.{reason_in}
 use Rattle.icescan_c_requests.specs.Statuses.{status_of}
 use Rattle.icescan_c.specs.declared.held.Held.{Held}
 use Rattle.icescan_c.specs.declared.held.Held.TheVariants as held
+use Rattle.icescan_c.specs.declared.states.ScanPlan.{ScanPlan}
 use Rattle.icescan_c_files.specs.Files.{IsFileOf}
 use Rattle.icescan_c_files.specs.Values.{IsValueOf}
 use Rattle.icescan_c_files.specs.declared.file.File.{File}
 use Rattle.icescan_c_files.specs.declared.value.Value.{Value}
 use Rattle.icescan_c_requests.specs.declared.endings.Refusal.{Refusal}
 use Rattle.icescan_c_requests.specs.declared.endings.Refusal.TheVariants as refusal
+use Rattle.icescan_c_requests.specs.declared.reason.Reason.{Reason}
 
 -- ---- what is found
 
@@ -22,18 +29,30 @@ abbrev pub fault_in : Held → Result (List ℕ) Refusal
 fault_in (held.Fault line) = Ok line
 fault_in other = Err refusal.Kind
 
+abbrev pub text_in : Held → Result (List ℕ) Refusal
+text_in (held.Text text) = Ok text
+text_in other = Err refusal.Kind
+
 abbrev pub list_in : Held → Result (List ℕ) Refusal
 list_in (held.Selection answer) = Ok answer.selection.list
 list_in other = Err refusal.Kind
 
--- the rows that a scan wants, and the lines of a plan
+-- the rows that a scan wants
 abbrev pub wanted_in : Held → Result (List Row) Refusal
 wanted_in (held.Scan asked) = Ok asked.scan.wanted
 wanted_in other = Err refusal.Kind
 
+-- a plan with the types of its partition values, and its lines
+abbrev pub plan_in : Held → Result ScanPlan Refusal
+plan_in (held.Plan plan) = Ok plan
+plan_in other = Err refusal.Kind
+
+abbrev pub lines_of : Result ScanPlan Refusal → Result (List OwnedLine) Refusal
+lines_of (Ok plan) = Ok plan.plan
+lines_of (Err refused) = Err refused
+
 abbrev pub lines_in : Held → Result (List OwnedLine) Refusal
-lines_in (held.Plan plan) = Ok plan
-lines_in other = Err refusal.Kind
+lines_in held = lines_of (plan_in held)
 
 -- what a relaxed filter is made of
 abbrev pub relaxed_in : Held → Result RelaxedRequest Refusal
@@ -74,15 +93,27 @@ abbrev pub equalities_of : Result OwnedLine Refusal → Result (List Entry) Refu
 equalities_of (Ok line) = Ok line.equalities
 equalities_of (Err refused) = Err refused
 
--- the partition values of a data file
-abbrev pub tuple_of : Result OwnedLine Refusal → Result (List Cell) Refusal
-tuple_of (Ok line) = Ok line.file.file.tuple
-tuple_of (Err refused) = Err refused
+abbrev pub file_of : Result OwnedLine Refusal → Result Entry Refusal
+file_of (Ok line) = Ok line.file
+file_of (Err refused) = Err refused
 
--- the partition values of a delete file
-abbrev pub tuple_in : Result Entry Refusal → Result (List Cell) Refusal
-tuple_in (Ok entry) = Ok entry.file.tuple
-tuple_in (Err refused) = Err refused
+-- a partition value, and its type where that is known
+abbrev pub with_type : Option ColumnType → Option Cell → Result (Cell × Option ColumnType) Refusal
+with_type known (Some cell) = Ok (cell, known)
+with_type known None = Err refusal.PastEnd
+
+-- the one at a place of a file, by the types of the specs
+abbrev pub value_of : List SpecTypes → Entry → ℕ → Result (Cell × Option ColumnType) Refusal
+value_of types entry k = with_type (type_at (types_of types entry.spec_id) k) (slice_get entry.file.tuple k)
+
+abbrev pub value_in : List SpecTypes → Result Entry Refusal → ℕ → Result (Cell × Option ColumnType) Refusal
+value_in types (Ok entry) k = value_of types entry k
+value_in types (Err refused) k = Err refused
+
+-- the one of a data file of a plan
+abbrev pub value_at : Result ScanPlan Refusal → ℕ → ℕ → Result (Cell × Option ColumnType) Refusal
+value_at (Ok plan) i k = value_in plan.types (file_of (or_past (slice_get plan.plan i))) k
+value_at (Err refused) i k = Err refused
 
 -- ---- what is told of it
 
@@ -99,8 +130,12 @@ abbrev pub IsDeleteOf : File → Entry → Type 0
 IsDeleteOf file entry = (number : ℕ) × IsFileOf entry number 0 0 file
 
 -- a partition value
-abbrev pub IsCell : Value → Cell → Type 0
-IsCell value cell = IsValueOf cell value
+abbrev pub IsTyped : Value → Cell × Option ColumnType → Type 0
+IsTyped value found = IsValueOf found.0 found.1 value
+
+-- the number of the refusal that a line tells
+abbrev pub IsReason : Reason → List ℕ → Type 0
+IsReason reason line = reason ≡ reason_in line
 
 -- what a call tells that reads what was found: it, or the refusal, and then what it was to write stays as it was
 abbrev pub Tells : {X Y : Type 0} → (Y → X → Type 0) → Result X Refusal → Y → ℕ → Y → Type 0
@@ -115,26 +150,27 @@ Reads tells found (Some held) before status after = Tells tells (found held) bef
 -- ---- the delete files of a plan, each once
 
 -- how many there are
-abbrev pub TellsCountOfDeletes : List Entry → ℕ → ℕ → ℕ → Type 0
-TellsCountOfDeletes deletes before status after = Tells IsCount (Ok (length deletes)) before status after
+abbrev pub TellsCountOfDeletes : List SpecTypes → List Entry → ℕ → ℕ → ℕ → Type 0
+TellsCountOfDeletes types deletes before status after = Tells IsCount (Ok (length deletes)) before status after
 
 -- the one of a number
-abbrev pub TellsDelete : ℕ → List Entry → File → ℕ → File → Type 0
-TellsDelete n deletes before status after =
+abbrev pub TellsDelete : ℕ → List SpecTypes → List Entry → File → ℕ → File → Type 0
+TellsDelete n types deletes before status after =
     Tells (λ file entry. IsFileOf entry n 0 0 file) (or_past (slice_get deletes n)) before status after
 
 -- a partition value of it
-abbrev pub TellsDeleteValue : ℕ → ℕ → List Entry → Value → ℕ → Value → Type 0
-TellsDeleteValue n k deletes before status after =
-    Tells IsCell (at_place (tuple_in (or_past (slice_get deletes n))) k) before status after
+abbrev pub TellsDeleteValue : ℕ → ℕ → List SpecTypes → List Entry → Value → ℕ → Value → Type 0
+TellsDeleteValue n k types deletes before status after =
+    Tells IsTyped (value_in types (or_past (slice_get deletes n)) k) before status after
 
--- That is told of the delete files by which a plan has its lines: those that apply to a data file, and perhaps others.
--- What holds no plan is refused.
-abbrev pub OfPlaced : {Y : Type 0} → (List Entry → Y → ℕ → Y → Type 0) → Held → Y → ℕ → Y → Type 0
-OfPlaced tells (held.Plan lines) before status after =
-    (placed : PlanPlaces) × (plan_of placed ≡ lines) × tells placed.deletes before status after
+-- That is told of the delete files by which a plan has its lines, and of the types of their partition values: those
+-- that apply to a data file, and perhaps others. What holds no plan is refused.
+abbrev pub OfPlaced : {Y : Type 0} → (List SpecTypes → List Entry → Y → ℕ → Y → Type 0) → Held → Y → ℕ → Y → Type 0
+OfPlaced tells (held.Plan plan) before status after =
+    (placed : PlanPlaces) × (plan_of placed ≡ plan.plan) × tells plan.types placed.deletes before status after
 OfPlaced tells other before status after = (status ≡ status_of (Err refusal.Kind)) × (after ≡ before)
 
-abbrev pub ReadsPlaced : {Y : Type 0} → (List Entry → Y → ℕ → Y → Type 0) → Option Held → Y → ℕ → Y → Type 0
+abbrev pub ReadsPlaced : {Y : Type 0} → (List SpecTypes → List Entry → Y → ℕ → Y → Type 0) → Option Held → Y → ℕ → Y
+    → Type 0
 ReadsPlaced tells None before status after = (status ≡ status_of (Err refusal.Kind)) × (after ≡ before)
 ReadsPlaced tells (Some held) before status after = OfPlaced tells held before status after

@@ -1,9 +1,8 @@
 //! What a handle holds.
 
 use crate::questions::{Answer, SharedScan};
-use crate::states::State;
+use crate::states::{ScanPlan, State};
 use contract_words::Items;
-use ice_state::OwnedPlan;
 use icescan_relaxed::RelaxedRequest;
 
 /// What a handle holds.
@@ -20,7 +19,9 @@ pub enum Held {
     /// A state of a scan.
     State(State),
     /// A plan.
-    Plan(OwnedPlan),
+    Plan(ScanPlan),
+    /// Lines of JSON.
+    Text(Items<u8>),
     /// The line that tells why there is none of these; no bytes where memory ran out for it.
     Fault(Items<u8>),
 }

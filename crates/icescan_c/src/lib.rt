@@ -12,4 +12,5 @@ mod scan_calls;
 mod state_calls;
 mod states;
 mod telling;
+mod text_calls;
 mod working;

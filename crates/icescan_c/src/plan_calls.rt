@@ -1,9 +1,9 @@
 //! The calls on plans.
 
 ghost use Rattle.std.specs.Prelude.{◌≡◌};
-ghost use Rattle.icescan_c.specs.Readings.{IsCell, IsCount, IsDeleteOf, IsFileOfLine, Reads, ReadsPlaced};
+ghost use Rattle.icescan_c.specs.Readings.{IsCount, IsDeleteOf, IsFileOfLine, IsTyped, Reads, ReadsPlaced};
 ghost use Rattle.icescan_c.specs.Readings.{TellsCountOfDeletes, TellsDelete, TellsDeleteValue, at_place, count_of};
-ghost use Rattle.icescan_c.specs.Readings.{equalities_of, lines_in, positions_of, tuple_of};
+ghost use Rattle.icescan_c.specs.Readings.{equalities_of, lines_in, plan_in, positions_of, value_at};
 
 use crate::handle::Handle;
 use icescan_c_files::{File, Value};
@@ -95,8 +95,7 @@ pub extern "C" fn icescan_plan_value(
     k: usize,
     value: &mut Value,
 ) -> u32
-    ensures told { Reads IsCell (λ held. at_place (tuple_of (at_place (lines_in held) i)) k) plan.old.held value.old
-        result value.new }
+    ensures told { Reads IsTyped (λ held. value_at (plan_in held) i k) plan.old.held value.old result value.new }
     ensures unchanged { plan.new.held ≡ plan.old.held }
 {
     let Some(held) = plan.take(alloc) else {

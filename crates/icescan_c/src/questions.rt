@@ -17,8 +17,10 @@ use std::sync::Arc;
 /// What is asked, and of which table: these are the bytes of its metadata.
 #[derive(Drop)]
 pub struct Question {
-    metadata: Items<u8>,
-    request: Request,
+    /// The bytes.
+    pub metadata: Items<u8>,
+    /// What is asked.
+    pub request: Request,
 }
 
 impl Question {
@@ -143,6 +145,13 @@ impl SharedScan {
             question: Arc::try_clone(&self.question)?,
             scan: Arc::try_clone(&self.scan)?,
         })
+    }
+
+    /// What was asked.
+    pub fn question(&self) -> &Question
+        ensures { result.now ≡ self.now.question }
+    {
+        &self.question
     }
 
     /// The scan.

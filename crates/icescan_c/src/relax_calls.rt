@@ -1,35 +1,18 @@
 //! The calls on relaxed filters.
 
 ghost use Rattle.std.specs.Prelude.{◌≡◌, [], ◌∷◌};
-ghost use Rattle.icescan_c.specs.Calls.{Asks, Selects};
-ghost use Rattle.icescan_c.specs.Making.{relaxing};
+ghost use Rattle.icescan_c.specs.Calls.{Selects};
+ghost use Rattle.icescan_c.specs.Making.{made};
 ghost use Rattle.icescan_c.specs.Readings.{IsCount, Reads, at_place, count_of, filter_of, relaxed_in, unasked_of};
 ghost use Rattle.icescan_c_files.specs.Lent.{AreLent};
 ghost use Rattle.icescan_c_requests.specs.Requests.{by_id, by_name};
 
 use crate::handle::Handle;
-use crate::held::Held;
+use crate::scan_calls::ask;
+use crate::working::Making;
 use icescan_c_lent::Bytes;
 use icescan_c_requests::{Refusal, request_by_id, request_by_name, status};
-use icescan_text::Request;
 use std::alloc::Global;
-
-/// Has a handle hold a request whose filter is relaxed, or the line of the fault. A request that could not be read is
-/// refused as it was; `Memory` where there is no room for the handle; then the handle holds what it held.
-fn relax(
-    alloc: Global,
-    relaxed: &mut Handle,
-    metadata: &[u8],
-    request: Result<Request, Refusal>,
-) -> Result<(), Refusal>
-    ensures { Asks (relaxing metadata.now) request relaxed.old.held result relaxed.new.held }
-{
-    let request = request?;
-    let mut held = Held::Nothing;
-    let ended = held.relax(alloc, metadata, request);
-    relaxed.hold(alloc, held)?;
-    ended
-}
 
 /// Relaxes a filter for the snapshot that a branch or tag names, for the current one where the name is empty.
 #[unsafe(no_mangle)]
@@ -40,11 +23,12 @@ pub extern "C" fn icescan_relax_new(
     name: &[u8],
     filter: &[u8],
 ) -> u32
-    ensures { Selects (relaxing metadata.now) (name.now ∷ filter.now ∷ []) (by_name name.now filter.now)
-        relaxed.old.held result relaxed.new.held }
+    ensures { Selects (made Making.Relaxed metadata.now) (name.now ∷ filter.now ∷ [])
+        (by_name name.now filter.now) relaxed.old.held result relaxed.new.held }
 {
-    status(relax(
+    status(ask(
         alloc,
+        Making::Relaxed,
         relaxed,
         metadata,
         request_by_name(alloc, name, filter),
@@ -60,11 +44,12 @@ pub extern "C" fn icescan_relax_new_at(
     snapshot: i64,
     filter: &[u8],
 ) -> u32
-    ensures { Selects (relaxing metadata.now) (filter.now ∷ []) (by_id snapshot filter.now) relaxed.old.held result
-        relaxed.new.held }
+    ensures { Selects (made Making.Relaxed metadata.now) (filter.now ∷ []) (by_id snapshot filter.now)
+        relaxed.old.held result relaxed.new.held }
 {
-    status(relax(
+    status(ask(
         alloc,
+        Making::Relaxed,
         relaxed,
         metadata,
         request_by_id(alloc, snapshot, filter),

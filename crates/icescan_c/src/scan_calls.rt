@@ -2,32 +2,35 @@
 
 ghost use Rattle.std.specs.Prelude.{◌≡◌, [], ◌∷◌, None};
 ghost use Rattle.icescan_c.specs.Calls.{Asks, OnHandle, Selects, Starts};
-ghost use Rattle.icescan_c.specs.Making.{asked};
-ghost use Rattle.icescan_c.specs.Readings.{IsCount, Reads, at_place, count_of, fault_in, list_in, path_of, wanted_in};
+ghost use Rattle.icescan_c.specs.Making.{made};
+ghost use Rattle.icescan_c.specs.Readings.{IsCount, IsReason, Reads, at_place, count_of, fault_in, list_in, path_of};
+ghost use Rattle.icescan_c.specs.Readings.{wanted_in};
 ghost use Rattle.icescan_c_files.specs.Lent.{AreLent};
 ghost use Rattle.icescan_c_requests.specs.Requests.{by_id, by_name};
 
 use crate::handle::Handle;
 use crate::held::Held;
+use crate::working::Making;
 use icescan_c_lent::Bytes;
-use icescan_c_requests::{Refusal, request_by_id, request_by_name, status};
+use icescan_c_requests::{Reason, Refusal, request_by_id, request_by_name, status};
 use icescan_text::Request;
 use std::alloc::Global;
 
-/// Has a handle hold what a request selects of a table, or the line of the fault. A request that could not be read is
-/// refused as it was; `Memory` where there is no room for the handle; then the handle holds what it held.
-fn ask(
+/// Has a handle hold what is made of a table's metadata and a request, or the line of the fault. A request that could
+/// not be read is refused as it was; `Memory` where there is no room for the handle; then it holds what it held.
+pub(crate) fn ask(
     alloc: Global,
-    scan: &mut Handle,
+    making: Making,
+    handle: &mut Handle,
     metadata: &[u8],
     request: Result<Request, Refusal>,
 ) -> Result<(), Refusal>
-    ensures { Asks (asked metadata.now) request scan.old.held result scan.new.held }
+    ensures { Asks (made making metadata.now) request handle.old.held result handle.new.held }
 {
     let request = request?;
     let mut held = Held::Nothing;
-    let ended = held.ask(alloc, metadata, request);
-    scan.hold(alloc, held)?;
+    let ended = held.ask(alloc, making, metadata, request);
+    handle.hold(alloc, held)?;
     ended
 }
 
@@ -41,10 +44,16 @@ pub extern "C" fn icescan_scan_new(
     name: &[u8],
     filter: &[u8],
 ) -> u32
-    ensures { Selects (asked metadata.now) (name.now ∷ filter.now ∷ []) (by_name name.now filter.now) scan.old.held
-        result scan.new.held }
+    ensures { Selects (made Making.Scan metadata.now) (name.now ∷ filter.now ∷ []) (by_name name.now filter.now)
+        scan.old.held result scan.new.held }
 {
-    status(ask(alloc, scan, metadata, request_by_name(alloc, name, filter)))
+    status(ask(
+        alloc,
+        Making::Scan,
+        scan,
+        metadata,
+        request_by_name(alloc, name, filter),
+    ))
 }
 
 /// Asks for the snapshot of an id, under a filter where its text is not empty.
@@ -56,11 +65,12 @@ pub extern "C" fn icescan_scan_new_at(
     snapshot: i64,
     filter: &[u8],
 ) -> u32
-    ensures { Selects (asked metadata.now) (filter.now ∷ []) (by_id snapshot filter.now) scan.old.held result
+    ensures { Selects (made Making.Scan metadata.now) (filter.now ∷ []) (by_id snapshot filter.now) scan.old.held result
         scan.new.held }
 {
     status(ask(
         alloc,
+        Making::Scan,
         scan,
         metadata,
         request_by_id(alloc, snapshot, filter),
@@ -138,6 +148,20 @@ pub extern "C" fn icescan_fault(alloc: Global, handle: &mut Handle, line: &mut B
         return status(Err(Refusal::Kind));
     };
     let ended = held.lend_fault(line);
+    handle.put(held);
+    status(ended)
+}
+
+/// Tells the letter and the number of the refusal whose line a handle holds.
+#[unsafe(no_mangle)]
+pub extern "C" fn icescan_reason(alloc: Global, handle: &mut Handle, reason: &mut Reason) -> u32
+    ensures told { Reads IsReason fault_in handle.old.held reason.old result reason.new }
+    ensures unchanged { handle.new.held ≡ handle.old.held }
+{
+    let Some(held) = handle.take(alloc) else {
+        return status(Err(Refusal::Kind));
+    };
+    let ended = held.tell_reason(reason);
     handle.put(held);
     status(ended)
 }

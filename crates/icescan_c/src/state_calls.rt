@@ -1,7 +1,7 @@
 //! The calls on states.
 
 ghost use Rattle.std.specs.Prelude.{◌≡◌, None};
-ghost use Rattle.icescan_c.specs.Calls.{Begins, BeginsOf, Finishes, Merges, MergesOf, OnHandle, Takes};
+ghost use Rattle.icescan_c.specs.Calls.{Begins, Finishes, Merges, MergesOf, OfOther, OnHandle, Takes};
 
 use crate::handle::Handle;
 use crate::held::Held;
@@ -26,7 +26,7 @@ fn begin(alloc: Global, scan: &Held, state: &mut Handle) -> Result<(), Refusal>
 #[unsafe(no_mangle)]
 pub extern "C" fn icescan_state_new(alloc: Global, scan: &mut Handle, state: &mut Handle) -> u32
     ensures unchanged { scan.new.held ≡ scan.old.held }
-    ensures made { BeginsOf scan.old.held state.old.held result state.new.held }
+    ensures made { OfOther Begins scan.old.held state.old.held result state.new.held }
 {
     let Some(held) = scan.take(alloc) else {
         return status(Err(Refusal::Kind));

@@ -1,13 +1,18 @@
 //! States: what was read of a scan so far.
 
-ghost use Rattle.std.specs.Prelude.{◌≡◌, IfOk};
+ghost use Rattle.std.specs.Prelude.{◌≡◌, IfOk, map};
 ghost use Rattle.contract_words.specs.Outcome.{Gives};
-ghost use Rattle.ice_state.specs.Outcomes.{outcome};
+ghost use Rattle.icescan_c.specs.Calls.{IsJsonOfScan};
+ghost use Rattle.icescan_c.specs.Making.{planned};
+ghost use Rattle.icescan_json.specs.Types.{spec_types};
 ghost use Rattle.icescan_c.specs.States.{TakesOver, TakesRow, untaken};
 
 use crate::questions::SharedScan;
-use ice_state::{FinishFault, OwnedPlan, Partial};
-use icescan_c_requests::Refusal;
+use contract_words::Items;
+use ice_state::{OwnedPlan, Partial};
+use icescan_c_requests::{Refusal, plan_json};
+use icescan_json::{SpecTypes, types_of_specs};
+use icescan_text::RunFault;
 use std::alloc::{AllocError, Global};
 use std::marker::Model;
 
@@ -80,13 +85,49 @@ impl State {
         Ok(())
     }
 
-    /// The plan, or what keeps the content from being one.
-    pub fn into_plan(self) -> Result<OwnedPlan, FinishFault>
-        ensures { Gives FinishFault.Memory (λ plan. plan) result (outcome self.scan self.content) }
+    /// What is known of the scan's partition specs.
+    fn types(&self, alloc: Global) -> Result<Items<SpecTypes>, AllocError>
+        ensures { IfOk result (λ types. types ≡ map spec_types self.now.scan.specs) }
     {
+        let types = types_of_specs(alloc, self.scan.scan().specs())?;
+        Ok(Items::from_vec(types))
+    }
+
+    /// The plan, or what keeps the content from being one.
+    #[tactic(auto, unfolding(crate::specs::Making::planned))]
+    pub fn into_plan(self, alloc: Global) -> Result<ScanPlan, RunFault>
+        ensures { Gives RunFault.Memory (λ plan. plan) result (planned self) }
+    {
+        let types = self.types(alloc)?;
         let State { scan, partial } = self;
-        let plan = partial.into_plan(scan.scan());
-        drop(scan);
-        plan
+        let plan = partial.into_plan(scan.scan())?;
+        Ok(ScanPlan { scan, types, plan })
+    }
+}
+
+/// The plan of a scan.
+#[derive(Drop)]
+pub struct ScanPlan {
+    /// The scan.
+    pub scan: SharedScan,
+    /// What is known of its partition specs.
+    pub types: Items<SpecTypes>,
+    /// The plan.
+    pub plan: OwnedPlan,
+}
+
+impl ScanPlan {
+    /// The plan as JSON, with the filter that was asked.
+    pub fn json(&self, alloc: Global) -> Result<Items<u8>, AllocError>
+        ensures { IfOk result (IsJsonOfScan self.now) }
+    {
+        let question = self.scan.question();
+        plan_json(
+            alloc,
+            question.metadata.as_slice(),
+            &question.request,
+            self.types.as_slice(),
+            &self.plan,
+        )
     }
 }

@@ -1,30 +1,45 @@
 //! Telling what a handle holds.
 
 ghost use Rattle.std.specs.Prelude.{◌≡◌, Err, IfErr, IfOk, Ok, slice_get};
-ghost use Rattle.icescan_c.specs.Readings.{IsCell, IsCount, IsDeleteOf, IsFileOfLine, OfPlaced, Tells};
+ghost use Rattle.icescan_c.specs.Readings.{IsCount, IsDeleteOf, IsFileOfLine, IsReason, IsTyped, OfPlaced, Tells};
 ghost use Rattle.icescan_c.specs.Readings.{TellsCountOfDeletes, TellsDelete, TellsDeleteValue, at_place, count_of};
 ghost use Rattle.icescan_c.specs.Readings.{equalities_of, fault_in, filter_of, lines_in, list_in, or_past, path_of};
-ghost use Rattle.icescan_c.specs.Readings.{positions_of, relaxed_in, tuple_of, unasked_of, wanted_in};
+ghost use Rattle.icescan_c.specs.Readings.{plan_in, positions_of, relaxed_in, text_in, unasked_of, value_at, value_of};
+ghost use Rattle.icescan_c.specs.Readings.{wanted_in};
 ghost use Rattle.icescan_c_files.specs.Lent.{AreLent};
 ghost use Rattle.icescan_c_requests.specs.Statuses.{status_of};
+ghost use Rattle.icescan_json.specs.Values.{type_at};
 
 use crate::held::Held;
-use crate::questions::SharedScan;
-use ice_state::{OwnedPlan, PlacedFiles, PlanFiles};
-use ice_value::Cell;
+use crate::states::ScanPlan;
+use ice_manifest_reading::Row;
+use ice_state::{OwnedPlan, PlacedFiles, PlanFile, PlanFiles};
+use ice_value::ColumnType;
 use icescan_c_files::{File, Value};
 use icescan_c_lent::Bytes;
-use icescan_c_requests::Refusal;
+use icescan_c_requests::{Reason, Refusal};
+use icescan_json::{SpecTypes, types_of};
 use icescan_relaxed::RelaxedRequest;
 
 impl Held {
-    /// The scan that it holds.
-    fn scan(&self) -> Result<&SharedScan, Refusal>
-        ensures scan { IfOk result (λ asked. wanted_in self.now ≡ Ok asked.now.scan.wanted) }
+    /// The rows that a scan wants.
+    fn wanted(&self) -> Result<&[Row], Refusal>
+        ensures rows { IfOk result (λ rows. wanted_in self.now ≡ Ok rows.now) }
         ensures none { IfErr result (λ refused. wanted_in self.now ≡ Err refused) }
     {
         match self {
-            Held::Scan(scan) => Ok(scan),
+            Held::Scan(scan) => Ok(scan.scan().wanted()),
+            _ => Err(Refusal::Kind),
+        }
+    }
+
+    /// The plan that it holds, beside its scan.
+    fn scan_plan(&self) -> Result<&ScanPlan, Refusal>
+        ensures plan { IfOk result (λ plan. plan_in self.now ≡ Ok plan.now) }
+        ensures none { IfErr result (λ refused. plan_in self.now ≡ Err refused) }
+    {
+        match self {
+            Held::Plan(plan) => Ok(plan),
             _ => Err(Refusal::Kind),
         }
     }
@@ -35,7 +50,7 @@ impl Held {
         ensures none { IfErr result (λ refused. lines_in self.now ≡ Err refused) }
     {
         match self {
-            Held::Plan(plan) => Ok(plan),
+            Held::Plan(plan) => Ok(&plan.plan),
             _ => Err(Refusal::Kind),
         }
     }
@@ -47,6 +62,32 @@ impl Held {
         match self {
             Held::Fault(text) => {
                 *line = Bytes::of(text.as_slice());
+                Ok(())
+            }
+            _ => Err(Refusal::Kind),
+        }
+    }
+
+    /// Tells the number of the refusal whose line it holds.
+    pub fn tell_reason(&self, reason: &mut Reason) -> Result<(), Refusal>
+        ensures { Tells IsReason (fault_in self.now) reason.old (status_of result) reason.new }
+    {
+        match self {
+            Held::Fault(text) => {
+                *reason = Reason::of_line(text.as_slice());
+                Ok(())
+            }
+            _ => Err(Refusal::Kind),
+        }
+    }
+
+    /// Lends the lines of JSON that it holds.
+    pub fn lend_text(&self, text: &mut Bytes) -> Result<(), Refusal>
+        ensures { Tells AreLent (text_in self.now) text.old (status_of result) text.new }
+    {
+        match self {
+            Held::Text(lines) => {
+                *text = Bytes::of(lines.as_slice());
                 Ok(())
             }
             _ => Err(Refusal::Kind),
@@ -113,7 +154,7 @@ impl Held {
     pub fn count_wanted(&self, count: &mut usize) -> Result<(), Refusal>
         ensures { Tells IsCount (count_of (wanted_in self.now)) count.old (status_of result) count.new }
     {
-        *count = self.scan()?.scan().wanted().len();
+        *count = self.wanted()?.len();
         Ok(())
     }
 
@@ -122,7 +163,7 @@ impl Held {
         ensures { Tells AreLent (path_of (at_place (wanted_in self.now) i)) path.old (status_of result)
             path.new }
     {
-        match self.scan()?.scan().wanted().get(i) {
+        match self.wanted()?.get(i) {
             Some(row) => {
                 *path = Bytes::of(row.path.as_bytes());
                 Ok(())
@@ -182,14 +223,14 @@ impl Held {
 
     /// Lends a partition value of a data file of a plan.
     pub fn lend_value(&self, i: usize, k: usize, value: &mut Value) -> Result<(), Refusal>
-        ensures { Tells IsCell (at_place (tuple_of (at_place (lines_in self.now) i)) k) value.old
-            (status_of result) value.new }
+        ensures { Tells IsTyped (value_at (plan_in self.now) i k) value.old (status_of result) value.new }
     {
-        let lines = self.plan()?.lines();
+        let plan = self.scan_plan()?;
+        let lines = plan.plan.lines();
         if lines.len() <= i {
             return Err(Refusal::PastEnd);
         }
-        lend_cell(lines.line(i).file().tuple(), k, value)
+        lend_cell(plan.types.as_slice(), &lines.line(i).file(), k, value)
     }
 
     /// Tells how many delete files a plan has.
@@ -216,11 +257,12 @@ impl Held {
     pub fn lend_placed_value(&self, n: usize, k: usize, value: &mut Value) -> Result<(), Refusal>
         ensures { OfPlaced (TellsDeleteValue n k) self.now value.old (status_of result) value.new }
     {
-        let placed = self.plan()?.lines().placed_files();
+        let plan = self.scan_plan()?;
+        let placed = plan.plan.lines().placed_files();
         if placed.count_deletes() <= n {
             return Err(Refusal::PastEnd);
         }
-        lend_cell(placed.delete(n).tuple(), k, value)
+        lend_cell(plan.types.as_slice(), &placed.delete(n), k, value)
     }
 }
 
@@ -264,13 +306,28 @@ fn lend_delete(
     Ok(())
 }
 
-/// Lends one of some partition values.
-fn lend_cell(cells: &[Cell], k: usize, value: &mut Value) -> Result<(), Refusal>
-    ensures { Tells IsCell (or_past (slice_get cells.now k)) value.old (status_of result) value.new }
+/// The type at a place; none where it is not known.
+fn type_at(types: &[Option<ColumnType>], k: usize) -> Option<ColumnType>
+    ensures { result ≡ type_at types.now k }
 {
-    match cells.get(k) {
+    match types.get(k) {
+        Some(known) => *known,
+        None => None,
+    }
+}
+
+/// Lends a partition value of a file, of which the types of the specs tell the type.
+fn lend_cell(
+    types: &[SpecTypes],
+    file: &PlanFile<'_>,
+    k: usize,
+    value: &mut Value,
+) -> Result<(), Refusal>
+    ensures { Tells IsTyped (value_of types.now file.now k) value.old (status_of result) value.new }
+{
+    match file.tuple().get(k) {
         Some(cell) => {
-            *value = Value::of(cell);
+            *value = Value::of(cell, type_at(types_of(types, file.spec_id()), k));
             Ok(())
         }
         None => Err(Refusal::PastEnd),

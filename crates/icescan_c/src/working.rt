@@ -3,17 +3,28 @@
 ghost use Rattle.std.specs.Prelude.{◌≡◌};
 ghost use Rattle.contract_words.specs.Outcome.{Gives};
 ghost use Rattle.icescan_c.specs.Calls.{Finishes, Merges, Starts, Takes};
-ghost use Rattle.icescan_c.specs.Making.{Holds, Makes, asked, finished, relaxing, started};
+ghost use Rattle.icescan_c.specs.Making.{Holds, Makes, asked, finished, made, relaxing, started, telling_columns};
 
 use crate::held::Held;
 use crate::questions::{Answer, SharedScan};
 use crate::states::State;
 use contract_words::Items;
-use icescan_c_requests::{Refusal, fault_line};
+use icescan_c_requests::{Refusal, columns_json, fault_line};
 use icescan_relaxed::relax_request;
 use icescan_text::{Request, RunFault};
 use std::alloc::Global;
 use std::mem::replace;
+
+/// What is made of a table's metadata and a request.
+#[derive(Clone, Copy)]
+pub enum Making {
+    /// What the request selects, to be scanned.
+    Scan,
+    /// The request with its filter relaxed.
+    Relaxed,
+    /// The columns that a filter of the snapshot names.
+    Columns,
+}
 
 /// What a request selects of the table whose metadata these are the bytes of.
 #[tactic(auto, unfolding(crate::specs::Making::asked))]
@@ -25,10 +36,33 @@ fn asked(alloc: Global, metadata: &[u8], request: Request) -> Result<Held, RunFa
 
 /// The request whose filter is relaxed, of the table whose metadata these are the bytes of.
 #[tactic(auto, unfolding(crate::specs::Making::relaxing))]
-fn relaxed(alloc: Global, metadata: &[u8], request: &Request) -> Result<Held, RunFault>
-    ensures { Gives RunFault.Memory (λ held. held) result (relaxing metadata.now request.now) }
+fn relaxed(alloc: Global, metadata: &[u8], request: Request) -> Result<Held, RunFault>
+    ensures { Gives RunFault.Memory (λ held. held) result (relaxing metadata.now request) }
 {
-    Ok(Held::Relaxed(relax_request(alloc, metadata, request)?))
+    let made = relax_request(alloc, metadata, &request);
+    drop(request);
+    Ok(Held::Relaxed(made?))
+}
+
+/// The columns that a filter of the request's snapshot names, of the table whose metadata these are the bytes of.
+#[tactic(auto, unfolding(crate::specs::Making::telling_columns))]
+fn told_columns(alloc: Global, metadata: &[u8], request: Request) -> Result<Held, RunFault>
+    ensures { Gives RunFault.Memory (λ held. held) result (telling_columns metadata.now request) }
+{
+    let text = columns_json(alloc, metadata, &request.target);
+    drop(request);
+    Ok(Held::Text(text?))
+}
+
+/// What is asked to be made of the table whose metadata these are the bytes of.
+fn made(alloc: Global, making: Making, metadata: &[u8], request: Request) -> Result<Held, RunFault>
+    ensures { Gives RunFault.Memory (λ held. held) result (made making metadata.now request) }
+{
+    match making {
+        Making::Scan => asked(alloc, metadata, request),
+        Making::Relaxed => relaxed(alloc, metadata, request),
+        Making::Columns => told_columns(alloc, metadata, request),
+    }
 }
 
 /// The scan of what was selected, whose manifest list these are the bytes of.
@@ -41,10 +75,10 @@ fn started(alloc: Global, answer: Answer, list: &[u8]) -> Result<Held, RunFault>
 
 /// The plan of what a state took.
 #[tactic(auto, unfolding(crate::specs::Making::finished))]
-fn finished(state: State) -> Result<Held, RunFault>
+fn finished(alloc: Global, state: State) -> Result<Held, RunFault>
     ensures { Gives RunFault.Memory (λ held. held) result (finished state) }
 {
-    Ok(Held::Plan(state.into_plan()?))
+    Ok(Held::Plan(state.into_plan(alloc)?))
 }
 
 impl Held {
@@ -76,20 +110,17 @@ impl Held {
         }
     }
 
-    /// Holds what a request selects of a table, or the line of the fault.
-    pub fn ask(&mut self, alloc: Global, metadata: &[u8], request: Request) -> Result<(), Refusal>
-        ensures { Makes (asked metadata.now request) result self.new }
+    /// Holds what is made of a table's metadata and a request, or the line of the fault.
+    pub fn ask(
+        &mut self,
+        alloc: Global,
+        making: Making,
+        metadata: &[u8],
+        request: Request,
+    ) -> Result<(), Refusal>
+        ensures { Makes (made making metadata.now request) result self.new }
     {
-        self.hold(alloc, asked(alloc, metadata, request))
-    }
-
-    /// Holds the request whose filter is relaxed, or the line of the fault.
-    pub fn relax(&mut self, alloc: Global, metadata: &[u8], request: Request) -> Result<(), Refusal>
-        ensures { Makes (relaxing metadata.now request) result self.new }
-    {
-        let made = relaxed(alloc, metadata, &request);
-        drop(request);
-        self.hold(alloc, made)
+        self.hold(alloc, made(alloc, making, metadata, request))
     }
 
     /// Holds the scan of what was selected, or the line of the fault. `Kind` where it held no selection.
@@ -146,7 +177,7 @@ impl Held {
         ensures { Finishes self.old result self.new }
     {
         match replace(self, Held::Nothing) {
-            Held::State(state) => self.hold(alloc, finished(state)),
+            Held::State(state) => self.hold(alloc, finished(alloc, state)),
             held => {
                 self.set(held);
                 Err(Refusal::Kind)

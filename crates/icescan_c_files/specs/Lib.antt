@@ -1,3 +1,4 @@
 pub mod Files
 pub mod Lent
+pub mod Types
 pub mod Values

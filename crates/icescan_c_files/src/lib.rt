@@ -3,6 +3,8 @@
 
 mod file;
 mod value;
+mod value_type;
 
 pub use file::File;
 pub use value::Value;
+pub use value_type::ValueType;

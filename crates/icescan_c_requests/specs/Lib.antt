@@ -1,2 +1,4 @@
+pub mod Reasons
 pub mod Requests
 pub mod Statuses
+pub mod Texts

@@ -4,7 +4,12 @@
 mod asking;
 mod endings;
 mod lines;
+mod reason;
+mod residual;
+mod texts;
 
 pub use asking::{request_by_id, request_by_name};
 pub use endings::{Refusal, status};
 pub use lines::fault_line;
+pub use reason::Reason;
+pub use texts::{columns_json, plan_json};
