@@ -10,8 +10,8 @@ use crate::fault::StateFault;
 use ice_state_envelopes::Envelope;
 use std::alloc::Global;
 
-/// Bytes that are the union of two states of one scan, that of the first where both took a row. No scan has to be known,
-/// and what the states say of their rows is not looked at. States of two scans are not joined.
+/// Bytes that are the union of two states of one scan: of a row that both took, what the first has. No scan has to be
+/// known, and what the states say of their rows is not looked at. States of two scans are not joined.
 pub fn joined_bytes(alloc: Global, one: &[u8], other: &[u8]) -> Result<Vec<u8>, StateFault>
     ensures joined { IfOk result (λ both. Joins one.now other.now both.items) }
     ensures refused { (scan : Scanned) (name : List ℕ) (c d : Content) →

@@ -17,8 +17,8 @@ ghost use Rattle.ice_state_bytes.specs.States.{state_at};
 use ice_state::laws::filtering;
 
 /// Whatever states are carried and joined as bytes, in whatever tree and however often, the end is that of the same
-/// takes and merges on one machine: the content of the world and of the rows that were taken. Where these are all wanted
-/// rows, whoever took them, that finishes with the plan of the snapshot.
+/// takes and merges on one machine: the content of the world and of the rows that were taken. Where these are all
+/// wanted rows, whoever took them, that finishes with the plan of the snapshot.
 pub fn travelling()
     ensures same { (scan : Scanned) (name : List ℕ) (j : Journey) (c : Content) →
         Ends scan name j c → c ≡ after scan (run_of j) }
