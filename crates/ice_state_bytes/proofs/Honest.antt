@@ -1,6 +1,7 @@
 -- What manifests give is of the scan.
 use Rattle.std.proofs.Common.{◌≡◌, ◌≤◌, ◌++◌, ◌∙◌, ◌-◌, ◌+◌, ℕ, suc, ℤ, pos, Bool, true, false}
-use Rattle.std.proofs.Common.{List, [], ◌∷◌, Option, Some, None, Ok, Err, refl, sym, ap, subst, arith, length, length-append}
+use Rattle.std.proofs.Common.{List, [], ◌∷◌, Option, Some, None, Ok, Err, refl, sym, ap, subst, arith, length}
+use Rattle.std.proofs.Common.{length-append}
 use Rattle.std.proofs.Common.{filter, cond, map, nat_lt, slice_get, inl, inr}
 use Rattle.std.specs.List.{AllByRecursion}
 use Rattle.std.specs.Ordering.{int_eq}
@@ -178,7 +179,8 @@ same_flags true false is = absurd cc
 same_flags false true is = absurd cc
 same_flags false false is = refl
 
-one_fits : (row : Row) (spec : Spec) (front : List Entry) (e : Entry) → is_behind (known row front).position e.position ≡ true
+one_fits : (row : Row) (spec : Spec) (front : List Entry) (e : Entry)
+    → is_behind (known row front).position e.position ≡ true
     → IsAllowed row spec e → fits row spec (known row front) e ≡ true
 unfolding fits
 one_fits row spec front e behind one =

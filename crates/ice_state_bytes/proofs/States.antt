@@ -1,5 +1,6 @@
 -- States as bytes, by their envelopes.
-use Rattle.std.proofs.Common.{◌≡◌, ◌≢◌, ◌==◌, ◌&&◌, ◌∙◌, ℕ, Bool, true, false, not, List, refl, sym, ap, arith, subst, length}
+use Rattle.std.proofs.Common.{◌≡◌, ◌≢◌, ◌==◌, ◌&&◌, ◌∙◌, ℕ, Bool, true, false, not, List, refl, sym, ap, arith, subst}
+use Rattle.std.proofs.Common.{length}
 use Rattle.std.proofs.Common.{if◌then◌else◌, Result, Ok, Err}
 use Rattle.std.specs.Str.{bytes_eq}
 use Rattle.std.proofs.lemmas.Bool.Decides.{Decides-eqb, nat_tests}

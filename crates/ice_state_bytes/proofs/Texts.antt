@@ -190,4 +190,5 @@ text_some (Some (t, v)) is = tt
 pub optional_path_good : (id : ℤ) (x : Typed) (r : Option (List ℕ)) → HasTexts x.1 → optional_path id x ≡ Ok r
     → IfSome r (λ p. is_path p ≡ true)
 unfolding optional_path
-optional_path_good id x r is h = if_there_good id (optional_text id x) r (text_some (there (at id x)) (at_good id x is)) h
+optional_path_good id x r is h =
+    if_there_good id (optional_text id x) r (text_some (there (at id x)) (at_good id x is)) h

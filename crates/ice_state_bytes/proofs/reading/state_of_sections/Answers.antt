@@ -8,7 +8,8 @@ put_section-requires-clause-row c =
 
 pub returns-in_err-put_section-clause-exact : goal.returns-in_err-put_section-clause-exact
 returns-in_err-put_section-clause-exact c =
-    let p = err_from_is_err_and c.from_residual-in_err-put_section.result c.from_residual-in_err-put_section.ensures.1 in
+    let p = err_from_is_err_and c.from_residual-in_err-put_section.result
+    c.from_residual-in_err-put_section.ensures.1 in
     rw (p.1, p.2) (λ other. none_read c.args.scan.now c.args.sections.now c.sections.section-index _ c.sections.state
     c.in_err-put_section.field-0.0 _ c.sections-test.true (c.in_err-put_section.ensures.exact other)
     c.sections.invariant.rest)
