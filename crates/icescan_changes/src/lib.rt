@@ -11,5 +11,7 @@ mod running;
 mod same;
 
 pub use changes::{Change, FileChange, file_changes, line_changes};
-pub use running::{changes_file, changes_told};
+pub use json_lines::changes_objects;
+pub use lines::changes_text;
+pub use running::{changes_file, changes_file_json};
 pub use same::is_same_file;

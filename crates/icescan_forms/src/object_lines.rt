@@ -15,10 +15,9 @@ use std::marker::Model;
 /// Lines of JSON that are made in memory: whole objects, or lines that are put together piece by piece.
 #[derive(Debug, Drop)]
 pub struct ObjectLines {
-    /// Those that were sent.
-    pub text: Vec<u8>,
+    text: Vec<u8>,
     /// The last of them wait here.
-    pub page: Page,
+    page: Page,
 }
 
 impl Model for ObjectLines {

@@ -187,10 +187,6 @@ module _ (words : List (List ℕ)) where
   abbrev pub has_word : List ℕ → Bool
   has_word wanted = list_any (λ word. bytes_eq word wanted) words
 
-  -- it is one of them just where it is asked
-  abbrev pub IsFlagged : List ℕ → Bool → Type 0
-  IsFlagged wanted asked = asked ≡ has_word wanted
-
   -- the plan of the snapshot that the option of this name names, under the filter
   abbrev pub HasNamedPlan : List ℕ → Request → Type 0
   HasNamedPlan name request = (option_in words (codes "--filter") ≡ request.filter)
@@ -198,14 +194,14 @@ module _ (words : List (List ℕ)) where
 
   -- a word asks for a relaxed filter, or none does
   abbrev pub IsRelaxed : Bool → Type 0
-  IsRelaxed = IsFlagged (codes "--relax")
+  IsRelaxed asked = asked ≡ has_word (codes "--relax")
 
   -- a word asks for all snapshots, or none does
   abbrev pub IsOfAll : Bool → Type 0
-  IsOfAll = IsFlagged (codes "--all")
+  IsOfAll asked = asked ≡ has_word (codes "--all")
 
   abbrev pub HasAppends : Bool → Type 0
-  HasAppends = IsFlagged (codes "--appends")
+  HasAppends appends = appends ≡ has_word (codes "--appends")
 
   -- the plans of --from and --to, and whether each snapshot between has to be an append
   pub record HasChanges (request : ChangesRequest) : Type 0 where

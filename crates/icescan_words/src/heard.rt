@@ -4,7 +4,7 @@ ghost use Rattle.std.specs.Prelude.{◌≡◌, ◌∷◌, [], IfOk, IsTrue, None
 ghost use Rattle.std.specs.Prelude.{option_and_then, option_map, string_bytes, true};
 ghost use Rattle.std.specs.List.{after_first, before_first, list_any, starts_with};
 ghost use Rattle.uuid.specs.Text.{parsed};
-ghost use Rattle.icescan_words.specs.Heard.{HasChanges, HasNamedPlan, IsFlagged, IsNamed, IsRelaxed, relaxed_name};
+ghost use Rattle.icescan_words.specs.Heard.{HasAppends, HasChanges, HasNamedPlan, IsNamed, IsRelaxed, relaxed_name};
 ghost use Rattle.icescan_words.specs.Heard.{AsksFor, HasCommit, HasDrill, HasFormat, HasIds, HasRequest, HasSource};
 ghost use Rattle.icescan_words.specs.Heard.{HasLocated, HasPart, HasTarget, HasWorkers, Names, asks_help, is_equals};
 ghost use Rattle.icescan_words.specs.Heard.{IsOfAll, is_flag};
@@ -410,29 +410,45 @@ fn is_about(words: &[String], plain: &[&str], name: &str, source: &Source, path:
     are_words(plain, &[name, path]) && has_source(words, source)
 }
 
-/// Whether this word is among the words just where it is asked.
-fn is_flagged(words: &[String], word: &str, asked: bool) -> bool
-    ensures { IsTrue result → IsFlagged (map string_bytes words.now) word.now asked }
+/// Whether the words ask this of a table, by so many workers.
+fn has_scan(words: &[String], request: &Request, workers: usize) -> bool
+    ensures { IsTrue result → HasRequest (map string_bytes words.now) request.now
+        × HasWorkers (map string_bytes words.now) workers }
 {
-    asked == has_word(words, word)
+    has_request(words, request) && has_workers(words, workers)
 }
 
-/// Whether the words ask this of a table, in this form and by so many workers, with the filter relaxed or not.
-fn has_plan(
-    words: &[String],
-    request: &Request,
-    format: Format,
-    workers: usize,
-    relaxed: bool,
-) -> bool
+/// Whether the words relax the filter, or don't.
+fn is_relaxed(words: &[String], relaxed: bool) -> bool
+    ensures { IsTrue result → IsRelaxed (map string_bytes words.now) relaxed }
+{
+    relaxed == has_word(words, "--relax")
+}
+
+/// Whether the words ask this of a table, in this form and by so many workers.
+fn has_told(words: &[String], request: &Request, format: Format, workers: usize) -> bool
+    ensures { IsTrue result → HasRequest (map string_bytes words.now) request.now
+        × HasFormat (map string_bytes words.now) format × HasWorkers (map string_bytes words.now) workers }
+{
+    has_format(words, format) && has_scan(words, request, workers)
+}
+
+/// The same, under the filter as it stands.
+fn has_plan(words: &[String], request: &Request, format: Format, workers: usize) -> bool
     ensures { IsTrue result → HasRequest (map string_bytes words.now) request.now
         × HasFormat (map string_bytes words.now) format × HasWorkers (map string_bytes words.now) workers
-        × IsRelaxed (map string_bytes words.now) relaxed }
+        × IsRelaxed (map string_bytes words.now) false }
 {
-    has_request(words, request)
-        && has_format(words, format)
-        && has_workers(words, workers)
-        && is_flagged(words, "--relax", relaxed)
+    has_told(words, request, format, workers) && is_relaxed(words, false)
+}
+
+/// The same, under the relaxed filter.
+fn has_relaxed(words: &[String], request: &Request, format: Format, workers: usize) -> bool
+    ensures { IsTrue result → HasRequest (map string_bytes words.now) request.now
+        × HasFormat (map string_bytes words.now) format × HasWorkers (map string_bytes words.now) workers
+        × IsRelaxed (map string_bytes words.now) true }
+{
+    has_told(words, request, format, workers) && is_relaxed(words, true)
 }
 
 /// The name of the command that asks for this.
@@ -453,15 +469,20 @@ fn has_columns(words: &[String], target: &Target, format: Format) -> bool
     has_target(words, target) && has_format(words, format)
 }
 
+/// Whether the words ask for all snapshots, or don't.
+fn is_of_all(words: &[String], all: bool) -> bool
+    ensures { IsTrue result → IsOfAll (map string_bytes words.now) all }
+{
+    all == has_word(words, "--all")
+}
+
 /// Whether the words ask for the audit of this snapshot, in this form and by so many workers.
 fn has_audit(words: &[String], target: &Target, format: Format, workers: usize) -> bool
     ensures { IsTrue result → HasTarget (map string_bytes words.now) target.now
         × HasFormat (map string_bytes words.now) format × HasWorkers (map string_bytes words.now) workers
         × IsOfAll (map string_bytes words.now) false }
 {
-    has_columns(words, target, format)
-        && has_workers(words, workers)
-        && is_flagged(words, "--all", false)
+    has_columns(words, target, format) && has_workers(words, workers) && is_of_all(words, false)
 }
 
 /// Whether the words ask for the audits of all snapshots, in this form and by so many workers.
@@ -469,7 +490,7 @@ fn has_audits(words: &[String], format: Format, workers: usize) -> bool
     ensures { IsTrue result → HasFormat (map string_bytes words.now) format
         × HasWorkers (map string_bytes words.now) workers × IsOfAll (map string_bytes words.now) true }
 {
-    has_format(words, format) && has_workers(words, workers) && is_flagged(words, "--all", true)
+    has_format(words, format) && has_workers(words, workers) && is_of_all(words, true)
 }
 
 /// Whether the words name this snapshot by the option of this name.
@@ -491,13 +512,20 @@ fn has_named_plan(words: &[String], name: &str, request: &Request) -> bool
     has_filter(words, request.filter.as_ref()) && has_named(words, name, &request.target)
 }
 
+/// Whether the words say that each snapshot between has to be an append, or don't.
+fn has_appends(words: &[String], appends: bool) -> bool
+    ensures { IsTrue result → HasAppends (map string_bytes words.now) appends }
+{
+    appends == has_word(words, "--appends")
+}
+
 /// Whether the words ask for these changes.
 fn has_changes(words: &[String], request: &ChangesRequest) -> bool
     ensures { IsTrue result → HasChanges (map string_bytes words.now) request.now }
 {
     has_named_plan(words, "--from", &request.earlier)
         && has_named_plan(words, "--to", &request.later)
-        && is_flagged(words, "--appends", request.appends)
+        && has_appends(words, request.appends)
 }
 
 /// Whether the words ask for these changes, in this form and by so many workers.
@@ -562,7 +590,7 @@ fn asks_with(words: &[String], plain: &[&str], command: &Command) -> bool
         }
         Command::Plan(source, request, format, workers, path) => {
             is_about(words, plain, "plan", source, path.as_str())
-                && has_plan(words, request, *format, *workers, false)
+                && has_plan(words, request, *format, *workers)
         }
         Command::Commit(source, request) => {
             has_commit(words, plain, request) && has_source(words, source)
@@ -587,11 +615,11 @@ fn asks_with(words: &[String], plain: &[&str], command: &Command) -> bool
         }
         Command::Explain(source, request, format, workers, path) => {
             is_about(words, plain, "explain", source, path.as_str())
-                && has_plan(words, request, *format, *workers, false)
+                && has_plan(words, request, *format, *workers)
         }
         Command::Relaxed(what, source, request, format, workers, path) => {
             is_about(words, plain, relaxed_name(*what), source, path.as_str())
-                && has_plan(words, request, *format, *workers, true)
+                && has_relaxed(words, request, *format, *workers)
         }
         Command::Changes(source, request, format, workers, path) => {
             is_about(words, plain, "changes", source, path.as_str())

@@ -5,7 +5,7 @@ ghost use Rattle.clap.specs.Words.{subcommand_name_of};
 ghost use Rattle.uuid.specs.Text.{parsed};
 ghost use Rattle.icescan_words.specs.CommandLines.{IsWordsFault};
 ghost use Rattle.icescan_words.specs.Heard.{IsNamed, IsPart, IsSource, IsTarget, command_name, format_by, list_of, name_of};
-ghost use Rattle.icescan_words.specs.Heard.{relaxed_name, signed, source_of, unsigned, workers_by};
+ghost use Rattle.icescan_words.specs.Heard.{signed, source_of, unsigned, workers_by};
 ghost use Rattle.icescan_words.specs.Matched.{value_at};
 
 use crate::answer_format::format_by;
@@ -280,33 +280,20 @@ fn commit_of(
     })
 }
 
-/// Where the files of a table are, in which form it is told of, by how many workers, and where its metadata is.
-fn told_of(
-    alloc: Global,
-    matches: &ArgMatches<'_>,
-) -> Result<(Source, Format, usize, Text), RunFault>
+/// The plan that is asked for.
+fn plan_command(alloc: Global, matches: &ArgMatches<'_>) -> Result<Command, RunFault>
+    ensures name { IfOk result (λ command. command_name command ≡ codes "plan") }
     ensures causes { IfErr result IsWordsFault }
 {
     let format = format_of(matches);
     let workers = workers_of(alloc, matches)?;
     let metadata = required_text(alloc, matches, "metadata")?;
     let source = source_of(alloc, matches)?;
-    Ok((source, format, workers, metadata))
-}
-
-/// The plan that is asked for, or its explanation.
-fn scan_command(alloc: Global, matches: &ArgMatches<'_>, what: Relaxed) -> Result<Command, RunFault>
-    ensures name { IfOk result (λ command. command_name command ≡ relaxed_name what) }
-    ensures causes { IfErr result IsWordsFault }
-{
-    let (source, format, workers, metadata) = told_of(alloc, matches)?;
     let request = request_of(alloc, matches)?;
     if matches.get_flag("relax") {
-        return Ok(Command::Relaxed(what, source, request, format, workers, metadata));
-    }
-    match what {
-        Relaxed::Plan => Ok(Command::Plan(source, request, format, workers, metadata)),
-        Relaxed::Explanation => Ok(Command::Explain(source, request, format, workers, metadata)),
+        Ok(Command::Relaxed(Relaxed::Plan, source, request, format, workers, metadata))
+    } else {
+        Ok(Command::Plan(source, request, format, workers, metadata))
     }
 }
 
@@ -354,7 +341,10 @@ fn audit_command(alloc: Global, matches: &ArgMatches<'_>) -> Result<Command, Run
     ensures name { IfOk result (λ command. command_name command ≡ codes "audit") }
     ensures causes { IfErr result IsWordsFault }
 {
-    let (source, format, workers, metadata) = told_of(alloc, matches)?;
+    let format = format_of(matches);
+    let workers = workers_of(alloc, matches)?;
+    let metadata = required_text(alloc, matches, "metadata")?;
+    let source = source_of(alloc, matches)?;
     if matches.get_flag("all") {
         return Ok(Command::AuditAll(source, format, workers, metadata));
     }
@@ -362,12 +352,39 @@ fn audit_command(alloc: Global, matches: &ArgMatches<'_>) -> Result<Command, Run
     Ok(Command::Audit(source, target, format, workers, metadata))
 }
 
+/// The explanation that is asked for.
+fn explain_command(alloc: Global, matches: &ArgMatches<'_>) -> Result<Command, RunFault>
+    ensures name { IfOk result (λ command. command_name command ≡ codes "explain") }
+    ensures causes { IfErr result IsWordsFault }
+{
+    let format = format_of(matches);
+    let workers = workers_of(alloc, matches)?;
+    let metadata = required_text(alloc, matches, "metadata")?;
+    let source = source_of(alloc, matches)?;
+    let request = request_of(alloc, matches)?;
+    if matches.get_flag("relax") {
+        Ok(Command::Relaxed(
+            Relaxed::Explanation,
+            source,
+            request,
+            format,
+            workers,
+            metadata,
+        ))
+    } else {
+        Ok(Command::Explain(source, request, format, workers, metadata))
+    }
+}
+
 /// The changes that are asked for.
 fn changes_command(alloc: Global, matches: &ArgMatches<'_>) -> Result<Command, RunFault>
     ensures name { IfOk result (λ command. command_name command ≡ codes "changes") }
     ensures causes { IfErr result IsWordsFault }
 {
-    let (source, format, workers, metadata) = told_of(alloc, matches)?;
+    let format = format_of(matches);
+    let workers = workers_of(alloc, matches)?;
+    let metadata = required_text(alloc, matches, "metadata")?;
+    let source = source_of(alloc, matches)?;
     let request = changes_of(alloc, matches)?;
     Ok(Command::Changes(source, request, format, workers, metadata))
 }
@@ -444,13 +461,13 @@ fn command_of(alloc: Global, matches: &ArgMatches<'_>) -> Result<Command, RunFau
         return Err(misread(alloc));
     };
     match command {
-        "plan" => scan_command(alloc, matches, Relaxed::Plan),
+        "plan" => plan_command(alloc, matches),
         "list-plan" => list_plan_command(alloc, matches),
         "show" => show_command(alloc, matches),
         "locate" => locate_command(alloc, matches),
         "columns" => columns_command(alloc, matches),
         "audit" => audit_command(alloc, matches),
-        "explain" => scan_command(alloc, matches, Relaxed::Explanation),
+        "explain" => explain_command(alloc, matches),
         "changes" => changes_command(alloc, matches),
         "reachable" => reachable_command(alloc, matches),
         "orphans" => orphans_command(alloc, matches),

@@ -1,7 +1,7 @@
 use Rattle.std.proofs.Common.{◌≡◌, ℕ, true, false, List, Option, None, Some, refl}
 use Rattle.uuid.specs.Text.{parsed as uuid_in}
 use Rattle.icescan_json.specs.Expressions.{uuid_or}
-use Rattle.icescan_json.proofs.literals.push_uuid.Goals as goal
+use Rattle.icescan_json.proofs.json_text.JsonText.push_uuid.Goals as goal
 
 kept : (text : List ℕ) (o : Option (List ℕ)) → (((u : List ℕ) × (o ≡ Some u)) → false ≡ true) → uuid_or text o ≡ text
 kept text None h = refl
@@ -9,5 +9,5 @@ kept text (Some u) h = let e : false ≡ true = h (u, refl) in absurd cc
 
 pub returns-in-Err : goal.returns-in-Err
 returns-in-Err c =
-    rw (kept c.args.literal.now (uuid_in c.args.literal.now) c.in-Err.ensures.ok.1)
-    (rw c.as_bytes-in-Err.ensures.value at c.put_text-in-Err.ensures)
+    rw (kept c.args.text.now (uuid_in c.args.text.now) c.in-Err.ensures.ok.1)
+    (rw c.as_bytes-in-Err.ensures.value at c.push_quoted-in-Err.ensures)
