@@ -22,13 +22,14 @@ use icescan_json::{SpecTypes, types_of};
 use icescan_relaxed::RelaxedRequest;
 
 impl Held {
-    /// The rows that a scan wants.
+    /// The rows that a scan or an audit wants.
     fn wanted(&self) -> Result<&[Row], Refusal>
         ensures rows { IfOk result (λ rows. wanted_in self.now ≡ Ok rows.now) }
         ensures none { IfErr result (λ refused. wanted_in self.now ≡ Err refused) }
     {
         match self {
             Held::Scan(scan) => Ok(scan.scan().wanted()),
+            Held::Audit(audit) => Ok(audit.rows()),
             _ => Err(Refusal::Kind),
         }
     }
@@ -137,7 +138,7 @@ impl Held {
         }
     }
 
-    /// Lends the path of the manifest list of what was selected.
+    /// Lends the path of the manifest list of what was selected, or is to be audited.
     pub fn lend_list(&self, path: &mut Bytes) -> Result<(), Refusal>
         ensures { Tells AreLent (list_in self.now) path.old (status_of result) path.new }
     {
@@ -146,11 +147,15 @@ impl Held {
                 *path = Bytes::of(answer.list());
                 Ok(())
             }
+            Held::Subject(subject) => {
+                *path = Bytes::of(subject.list.as_bytes());
+                Ok(())
+            }
             _ => Err(Refusal::Kind),
         }
     }
 
-    /// Tells how many manifests a scan wants.
+    /// Tells how many manifests a scan or an audit wants.
     pub fn count_wanted(&self, count: &mut usize) -> Result<(), Refusal>
         ensures { Tells IsCount (count_of (wanted_in self.now)) count.old (status_of result) count.new }
     {
@@ -158,7 +163,7 @@ impl Held {
         Ok(())
     }
 
-    /// Lends the path of a manifest that a scan wants.
+    /// Lends the path of a manifest that a scan or an audit wants.
     pub fn lend_wanted(&self, i: usize, path: &mut Bytes) -> Result<(), Refusal>
         ensures { Tells AreLent (path_of (at_place (wanted_in self.now) i)) path.old (status_of result)
             path.new }
