@@ -176,25 +176,6 @@ uint32_t icescan_columns_new_at(icescan_handle *columns, const uint8_t *metadata
     return proved_icescan_columns_new_at(columns, some(metadata), metadata_len, snapshot);
 }
 
-uint32_t icescan_audit_new(icescan_handle *audit, const uint8_t *metadata, size_t metadata_len, const uint8_t *name,
-                           size_t name_len) {
-    if (!audit || lacks(metadata, metadata_len) || lacks(name, name_len))
-        return ICESCAN_NULL;
-    return proved_icescan_audit_new(audit, some(metadata), metadata_len, some(name), name_len);
-}
-
-uint32_t icescan_audit_new_at(icescan_handle *audit, const uint8_t *metadata, size_t metadata_len, int64_t snapshot) {
-    if (!audit || lacks(metadata, metadata_len))
-        return ICESCAN_NULL;
-    return proved_icescan_audit_new_at(audit, some(metadata), metadata_len, snapshot);
-}
-
-uint32_t icescan_audit_take(icescan_handle *audit, const uint8_t *manifest, size_t manifest_len) {
-    if (!audit || lacks(manifest, manifest_len))
-        return ICESCAN_NULL;
-    return proved_icescan_audit_take(audit, some(manifest), manifest_len);
-}
-
 uint32_t icescan_text(icescan_handle *handle, icescan_bytes *text) {
     return handle && text ? proved_icescan_text(handle, text) : ICESCAN_NULL;
 }

@@ -38,11 +38,6 @@ uint32_t proved_icescan_columns_new(icescan_handle *columns, const uint8_t *meta
                                     const uint8_t *name, size_t name_len);
 uint32_t proved_icescan_columns_new_at(icescan_handle *columns, const uint8_t *metadata, size_t metadata_len,
                                        int64_t snapshot);
-uint32_t proved_icescan_audit_new(icescan_handle *audit, const uint8_t *metadata, size_t metadata_len,
-                                  const uint8_t *name, size_t name_len);
-uint32_t proved_icescan_audit_new_at(icescan_handle *audit, const uint8_t *metadata, size_t metadata_len,
-                                     int64_t snapshot);
-uint32_t proved_icescan_audit_take(icescan_handle *audit, const uint8_t *manifest, size_t manifest_len);
 uint32_t proved_icescan_text(icescan_handle *handle, icescan_bytes *text);
 uint32_t proved_icescan_fault(icescan_handle *handle, icescan_bytes *line);
 uint32_t proved_icescan_reason(icescan_handle *handle, icescan_reason_of *reason);

@@ -85,7 +85,6 @@ static void nothing(const char *what, icescan_handle *none) {
     want(what, icescan_relax_count(none, &count), ICESCAN_KIND);
     want(what, icescan_relax_unasked(none, 0, &bytes), ICESCAN_KIND);
     want(what, icescan_plan_json(none, &other), ICESCAN_KIND);
-    want(what, icescan_audit_take(none, text("x"), 1), ICESCAN_KIND);
     want(what, icescan_text(none, &bytes), ICESCAN_KIND);
     want(what, icescan_fault(none, &bytes), ICESCAN_KIND);
     want(what, icescan_reason(none, &reason), ICESCAN_KIND);
@@ -225,39 +224,6 @@ static void columns(struct file metadata) {
     icescan_free(&made);
 }
 
-/* Audits of a table: what is refused. */
-static void audit(struct file metadata, struct file list, struct file manifest) {
-    icescan_handle made = ICESCAN_NOTHING, other = ICESCAN_NOTHING;
-    icescan_bytes bytes = ICESCAN_NO_BYTES;
-    size_t count = 0;
-    want("null audit", icescan_audit_new(NULL, text("{"), 1, NULL, 0), ICESCAN_NULL);
-    want("null metadata", icescan_audit_new(&made, NULL, 5, NULL, 0), ICESCAN_NULL);
-    want("null name", icescan_audit_new(&made, text("{"), 1, NULL, 1), ICESCAN_NULL);
-    want("null audit", icescan_audit_new_at(NULL, text("{"), 1, 5), ICESCAN_NULL);
-    want("null metadata", icescan_audit_new_at(&made, NULL, 5, 5), ICESCAN_NULL);
-    want("null audit", icescan_audit_take(NULL, text("x"), 1), ICESCAN_NULL);
-    want("null manifest", icescan_audit_take(&made, NULL, 1), ICESCAN_NULL);
-    want("no audit", icescan_audit_take(&made, text("x"), 1), ICESCAN_KIND);
-    want("no such snapshot", icescan_audit_new_at(&made, metadata.bytes, metadata.len, 5), ICESCAN_TABLE);
-    want_line("no such snapshot", &made, "icescan: M7 ");
-    want("audit", icescan_audit_new(&made, metadata.bytes, metadata.len, NULL, 0), ICESCAN_OK);
-    want("not started", icescan_audit_take(&made, manifest.bytes, manifest.len), ICESCAN_KIND);
-    want("list's path", icescan_scan_list(&made, &bytes), ICESCAN_OK);
-    want("started", icescan_scan_start(&made, list.bytes, list.len), ICESCAN_OK);
-    want("wanted", icescan_scan_count(&made, &count), ICESCAN_OK);
-    want("first", icescan_scan_wanted(&made, 0, &bytes), ICESCAN_OK);
-    want("past the last", icescan_scan_wanted(&made, count, &bytes), ICESCAN_PAST_END);
-    want("an audit is no scan", icescan_state_new(&made, &other), ICESCAN_KIND);
-    want("an audit is no state", icescan_state_take(&made, 0, manifest.bytes, manifest.len), ICESCAN_KIND);
-    want("bad manifest", icescan_audit_take(&made, text("Obj"), 3), ICESCAN_TABLE);
-    want_line("bad manifest", &made, "icescan: Z2 ");
-    want("audit", icescan_audit_new(&made, metadata.bytes, metadata.len, NULL, 0), ICESCAN_OK);
-    want("started", icescan_scan_start(&made, list.bytes, list.len), ICESCAN_OK);
-    want("not handed in", icescan_finish(&made), ICESCAN_TABLE);
-    want_line("not handed in", &made, "icescan: Z1 ");
-    icescan_free(&made);
-}
-
 int main(int count, char **words) {
     if (count != 4)
         return 2;
@@ -275,7 +241,6 @@ int main(int count, char **words) {
     null(&scan);
     relaxed(metadata);
     columns(metadata);
-    audit(metadata, list, manifest);
     icescan_free(&scan);
 
     /* What is asked. */

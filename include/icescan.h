@@ -50,9 +50,8 @@
  *
  * What is lent by pointer and length is read only. It stays until the next call that changes what the handle holds:
  * icescan_free, icescan_scan_new, icescan_scan_new_at, icescan_relax_new, icescan_relax_new_at, icescan_columns_new,
- * icescan_columns_new_at, icescan_audit_new, icescan_audit_new_at, icescan_audit_take, icescan_scan_start,
- * icescan_finish, icescan_state_absorb on the other's handle, icescan_state_new on the state's handle, and
- * icescan_plan_json on the text's handle.
+ * icescan_columns_new_at, icescan_scan_start, icescan_finish, icescan_state_absorb on the other's handle,
+ * icescan_state_new on the state's handle, and icescan_plan_json on the text's handle.
  *
  * Bytes that are handed in are read during the call and never after it. The library can't tell whether they are there.
  *
@@ -100,7 +99,7 @@ enum {
     ICESCAN_NULL = 10       /* NULL in place of a handle, of bytes, or of what is written to */
 };
 
-/* A scan, a state, a plan, a relaxed filter, an audit, a text, or the line of a fault; nothing where `held` is NULL. */
+/* A scan, a state, a plan, a relaxed filter, a text, or the line of a fault; nothing where `held` is NULL. */
 typedef struct {
     void *held;
 } icescan_handle;
@@ -303,22 +302,6 @@ uint32_t icescan_columns_new(icescan_handle *columns, const uint8_t *metadata, s
                              size_t name_len);
 uint32_t icescan_columns_new_at(icescan_handle *columns, const uint8_t *metadata, size_t metadata_len,
                                 int64_t snapshot);
-
-/* Asks for an audit of a snapshot, which is named as for icescan_scan_new and icescan_scan_new_at: whether the manifest
- * list and the metadata are right about the manifests, and what they say of files. icescan_scan_list then lends the
- * path of the manifest list, and icescan_scan_start begins the audit by its bytes. It wants every manifest of the
- * snapshot: icescan_scan_count and icescan_scan_wanted tell which. Their bytes are handed in one after the other in
- * that order, by icescan_audit_take; several threads may read them before. icescan_finish then has the handle hold the
- * text of what was found: the lines that `icescan audit --format json` prints. After a refusal the handle holds what
- * icescan_scan_new leaves.
- *
- * icescan_audit_take answers ICESCAN_PAST_END where each manifest was handed in. After ICESCAN_TABLE, as where a
- * manifest can't be read, and after ICESCAN_MEMORY the handle holds the line of the fault; after other refusals what it
- * held. */
-uint32_t icescan_audit_new(icescan_handle *audit, const uint8_t *metadata, size_t metadata_len, const uint8_t *name,
-                           size_t name_len);
-uint32_t icescan_audit_new_at(icescan_handle *audit, const uint8_t *metadata, size_t metadata_len, int64_t snapshot);
-uint32_t icescan_audit_take(icescan_handle *audit, const uint8_t *manifest, size_t manifest_len);
 
 /* Lends the text that a handle holds. */
 uint32_t icescan_text(icescan_handle *handle, icescan_bytes *text);

@@ -13,7 +13,6 @@
 
 Manifests and manifest lists have to be without compression. Rows that are read must still be filtered.
 """
-from ._audit import Audit, Finding, audit
 from ._columns import Column, Columns, PartitionField, columns
 from ._errors import (
     EncodingError,
@@ -33,7 +32,6 @@ from ._plan import DataFile, DeleteFile, Plan, plan, plan_json
 __version__ = "0.1.0"
 
 __all__ = [
-    "Audit",
     "Column",
     "Columns",
     "DataFile",
@@ -41,7 +39,6 @@ __all__ = [
     "EncodingError",
     "Error",
     "FilterError",
-    "Finding",
     "Folder",
     "KindError",
     "LibraryNotFound",
@@ -52,7 +49,6 @@ __all__ = [
     "PastEnd",
     "Plan",
     "TableError",
-    "audit",
     "columns",
     "plan",
     "plan_json",

@@ -14,7 +14,7 @@ import unittest
 from unittest import mock
 
 import icescan
-from icescan import _audit, _library, _plan
+from icescan import _library, _plan
 
 EXAMPLES = os.path.join(os.path.dirname(os.path.abspath(__file__)), "..", "..", "examples")
 EVENTS = "s3://warehouse/db/events"
@@ -199,37 +199,6 @@ class Columns(unittest.TestCase):
             self.assertEqual(raised.exception.reason, reason)
         with self.assertRaises(ValueError):
             self.columns(ref="eoy", snapshot=1)
-
-
-class Audits(unittest.TestCase):
-    def audit(self, **asked):
-        return icescan.audit(EVENTS_METADATA, folder=folder_of("events-java"), prefix=EVENTS, **asked)
-
-    def test_any_number_of_workers(self):
-        audit = self.audit()
-        self.assertEqual(audit.faults, ())
-        self.assertGreaterEqual(audit.entries, len(events()))
-        for workers in (1, 3, 16):
-            with self.subTest(workers=workers):
-                self.assertEqual(self.audit(workers=workers), audit)
-
-    def test_refusals(self):
-        folder = icescan.Folder(folder_of("events-java"), EVENTS)
-        for end, reason in {".metadata.json": "M1", f"{LIST}.avro": "N1", "u0-m0.avro": "Z2"}.items():
-            with self.subTest(end), self.assertRaises(icescan.TableError) as raised:
-                icescan.audit(EVENTS_METADATA, read=lambda path: b"" if path.endswith(end) else folder(path))
-            self.assertEqual(raised.exception.reason, reason, raised.exception.line)
-
-    def test_findings(self):
-        lines = [
-            '{"kind":"finding","finding":"uncovered","level":"fault","manifest":"m","file":"f","field":"d"}',
-            '{"kind":"finding","finding":"total-records","level":"note","says":3,"counted":4}',
-            '{"kind":"totals","manifests":1,"entries":2,"findings":2,"faults":1}',
-        ]
-        audit = _audit.audit_of([json.loads(it) for it in lines])
-        fault = icescan.Finding("uncovered", True, "m", "f", "d")
-        self.assertEqual((audit.faults, audit.manifests, audit.entries), ((fault,), 1, 2))
-        self.assertEqual(audit.findings[1], icescan.Finding("total-records", False, says=3, counted=4))
 
 
 class Sizes(unittest.TestCase):

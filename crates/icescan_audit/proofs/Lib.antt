@@ -9,4 +9,3 @@ pub mod Ranges
 mod Sends
 pub mod Honest
 pub mod JsonWritten
-pub mod NextManifest

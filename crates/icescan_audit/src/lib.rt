@@ -4,7 +4,6 @@
 
 mod audit;
 mod by_workers;
-mod handed;
 mod json_lines;
 mod laws;
 mod lines;
@@ -15,7 +14,6 @@ mod subject;
 mod summary;
 
 pub use audit::{Audit, Reading, audit_row};
-pub use handed::HandedAudit;
 pub use icescan_audit_findings::{
     Basis, FalseTotal, Finding, Flaw, LiveFile, SaidTotal, Total, TypedColumn, TypedColumns,
 };

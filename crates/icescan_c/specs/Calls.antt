@@ -1,11 +1,9 @@
 -- What calls do to what handles hold.
-use Rattle.std.specs.Prelude.{◌≡◌, ◌⊎◌, ℕ, List, Option, Some, None, Result, Ok, Err, slice_get}
+use Rattle.std.specs.Prelude.{◌≡◌, ◌⊎◌, ℕ, List, Option, Some, None, Result, Ok, Err}
 use Rattle.icescan_text.specs.declared.request.Request.{Request}
 use Rattle.icescan_text.specs.declared.fault.RunFault.{RunFault}
 use Rattle.icescan_c.specs.Kept.{Kept}
-use Rattle.ice_manifest_reading.specs.declared.row.Row.{Row}
-use Rattle.icescan_audit.specs.Handed.{Handed}
-use Rattle.icescan_c.specs.Making.{Makes, finished, handing, opening, started, telling_audit}
+use Rattle.icescan_c.specs.Making.{Makes, finished, started}
 use Rattle.icescan_c_requests.specs.Requests.{ReadsTexts}
 use Rattle.icescan_c_requests.specs.Texts.{IsJsonOfAsked}
 use Rattle.icescan_c.specs.States.{TakesOver, TakesRow, untaken}
@@ -46,10 +44,9 @@ abbrev pub Selects : (Request → Result Held RunFault) → List (List ℕ) → 
 Selects made texts request before status after = (read : Result Request Refusal) × (ended : Result Unit Refusal)
     × ReadsTexts texts request read × (status ≡ status_of ended) × Asks made read before ended after
 
--- what was selected becomes the scan of a manifest list, and a snapshot to be audited its audit
+-- what was selected becomes the scan of a manifest list
 abbrev pub Starts : List ℕ → Held → Result Unit Refusal → Held → Type 0
 Starts list (held.Selection answer) ended after = Makes (started answer list) ended after
-Starts list (held.Subject subject) ended after = Makes (opening subject list) ended after
 Starts list other ended after = Refuses refusal.Kind other ended after
 
 -- ---- states
@@ -84,20 +81,9 @@ abbrev pub MergesOf : Option Held → Option Held → ℕ → Option Held → Ty
 MergesOf None before status after = (status ≡ status_of (Err refusal.Kind)) × (after ≡ before)
 MergesOf (Some other) before status after = OnHandle (Merges other) before status after
 
--- an audit takes the manifest of the next row
-abbrev pub HandsNext : Option Row → List ℕ → Handed → Result Unit Refusal → Held → Type 0
-HandsNext None manifest audit ended after = Refuses refusal.PastEnd (held.Audit audit) ended after
-HandsNext (Some row) manifest audit ended after = Makes (handing audit manifest) ended after
-
-abbrev pub Hands : List ℕ → Held → Result Unit Refusal → Held → Type 0
-Hands manifest (held.Audit audit) ended after =
-    HandsNext (slice_get audit.rows audit.read.manifests) manifest audit ended after
-Hands manifest other ended after = Refuses refusal.Kind other ended after
-
--- a state becomes the plan of what it took, and an audit what it found
+-- a state becomes the plan of what it took
 abbrev pub Finishes : Held → Result Unit Refusal → Held → Type 0
 Finishes (held.State kept) ended after = Makes (finished kept) ended after
-Finishes (held.Audit audit) ended after = Makes (telling_audit audit) ended after
 Finishes other ended after = Refuses refusal.Kind other ended after
 
 -- ---- plans

@@ -2,9 +2,6 @@
 use Rattle.std.specs.Prelude.{◌≡◌, ◌⊎◌, ℕ, List, [], map, Result, Ok, Err}
 use Rattle.contract_words.specs.Outcome.{Gives, ◌>>=◌}
 use Rattle.ice_manifest_reading.specs.Lists.{rows_of}
-use Rattle.icescan_audit.specs.Handed.{Handed, opened, told_in, took}
-use Rattle.icescan_audit.specs.Subjects.{subject_of}
-use Rattle.icescan_audit.specs.declared.subject.Subject.{Subject}
 use Rattle.icescan_columns.specs.Columns.{columns_of}
 use Rattle.icescan_forms.specs.declared.format.Format.TheVariants as format
 use Rattle.icescan_json.specs.Types.{spec_types}
@@ -51,17 +48,10 @@ telling_columns metadata request = do
   text ← columns_of format.Json metadata request.target
   Ok (held.Text text)
 
--- the request's snapshot, to be audited
-unfoldable pub auditing : List ℕ → Request → Result Held RunFault
-auditing metadata request = do
-  subject ← subject_of metadata request.target
-  Ok (held.Subject subject)
-
 abbrev pub made : Making → List ℕ → Request → Result Held RunFault
 made making.Scan metadata request = asked metadata request
 made making.Relaxed metadata request = relaxing metadata request
 made making.Columns metadata request = telling_columns metadata request
-made making.Audit metadata request = auditing metadata request
 
 -- the scan of what was selected, whose manifest list these are the bytes of
 unfoldable pub scanned : Answered → List ℕ → Result AskedScan RunFault
@@ -89,22 +79,6 @@ unfoldable pub finished : Kept → Result Held RunFault
 finished kept = do
   plan ← planned kept
   Ok (held.Plan plan)
-
--- the audit of a snapshot by the bytes of its manifest list, with the manifest of the next row, and what it found
-unfoldable pub opening : Subject → List ℕ → Result Held RunFault
-opening subject list = do
-  audit ← opened subject list
-  Ok (held.Audit audit)
-
-unfoldable pub handing : Handed → List ℕ → Result Held RunFault
-handing audit manifest = do
-  more ← took audit manifest
-  Ok (held.Audit more)
-
-unfoldable pub telling_audit : Handed → Result Held RunFault
-telling_audit audit = do
-  text ← told_in audit
-  Ok (held.Text text)
 
 -- the line of a fault is held, or no bytes where memory ran out for it
 abbrev pub IsLineOf : RunFault → Held → Type 0

@@ -35,13 +35,11 @@ text_in other = Err refusal.Kind
 
 abbrev pub list_in : Held → Result (List ℕ) Refusal
 list_in (held.Selection answer) = Ok answer.selection.list
-list_in (held.Subject subject) = Ok subject.list
 list_in other = Err refusal.Kind
 
--- the rows that a scan or an audit wants
+-- the rows that a scan wants
 abbrev pub wanted_in : Held → Result (List Row) Refusal
 wanted_in (held.Scan asked) = Ok asked.scan.wanted
-wanted_in (held.Audit audit) = Ok audit.rows
 wanted_in other = Err refusal.Kind
 
 -- a plan with the types of its partition values, and its lines

@@ -3,7 +3,6 @@
 use crate::questions::{Answer, SharedScan};
 use crate::states::{ScanPlan, State};
 use contract_words::Items;
-use icescan_audit::{HandedAudit, Subject};
 use icescan_relaxed::RelaxedRequest;
 
 /// What a handle holds.
@@ -15,10 +14,6 @@ pub enum Held {
     Selection(Answer),
     /// A request whose filter is relaxed.
     Relaxed(RelaxedRequest),
-    /// A snapshot to be audited, whose manifest list is still to be read.
-    Subject(Subject),
-    /// An audit, of which manifests are still to be read.
-    Audit(HandedAudit),
     /// A scan.
     Scan(SharedScan),
     /// A state of a scan.

@@ -22,14 +22,13 @@ use icescan_json::{SpecTypes, types_of};
 use icescan_relaxed::RelaxedRequest;
 
 impl Held {
-    /// The rows that a scan or an audit wants.
+    /// The rows that a scan wants.
     fn wanted(&self) -> Result<&[Row], Refusal>
         ensures rows { IfOk result (λ rows. wanted_in self.now ≡ Ok rows.now) }
         ensures none { IfErr result (λ refused. wanted_in self.now ≡ Err refused) }
     {
         match self {
             Held::Scan(scan) => Ok(scan.scan().wanted()),
-            Held::Audit(audit) => Ok(audit.rows()),
             _ => Err(Refusal::Kind),
         }
     }
@@ -138,7 +137,7 @@ impl Held {
         }
     }
 
-    /// Lends the path of the manifest list of what was selected, or is to be audited.
+    /// Lends the path of the manifest list of what was selected.
     pub fn lend_list(&self, path: &mut Bytes) -> Result<(), Refusal>
         ensures { Tells AreLent (list_in self.now) path.old (status_of result) path.new }
     {
@@ -147,15 +146,11 @@ impl Held {
                 *path = Bytes::of(answer.list());
                 Ok(())
             }
-            Held::Subject(subject) => {
-                *path = Bytes::of(subject.list.as_bytes());
-                Ok(())
-            }
             _ => Err(Refusal::Kind),
         }
     }
 
-    /// Tells how many manifests a scan or an audit wants.
+    /// Tells how many manifests a scan wants.
     pub fn count_wanted(&self, count: &mut usize) -> Result<(), Refusal>
         ensures { Tells IsCount (count_of (wanted_in self.now)) count.old (status_of result) count.new }
     {
@@ -163,7 +158,7 @@ impl Held {
         Ok(())
     }
 
-    /// Lends the path of a manifest that a scan or an audit wants.
+    /// Lends the path of a manifest that a scan wants.
     pub fn lend_wanted(&self, i: usize, path: &mut Bytes) -> Result<(), Refusal>
         ensures { Tells AreLent (path_of (at_place (wanted_in self.now) i)) path.old (status_of result)
             path.new }

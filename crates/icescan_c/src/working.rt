@@ -2,15 +2,13 @@
 
 ghost use Rattle.std.specs.Prelude.{◌≡◌};
 ghost use Rattle.contract_words.specs.Outcome.{Gives};
-ghost use Rattle.icescan_c.specs.Calls.{Finishes, Hands, Merges, Starts, Takes};
-ghost use Rattle.icescan_c.specs.Making.{Holds, Makes, asked, auditing, finished, handing, made, opening, relaxing};
-ghost use Rattle.icescan_c.specs.Making.{started, telling_audit, telling_columns};
+ghost use Rattle.icescan_c.specs.Calls.{Finishes, Merges, Starts, Takes};
+ghost use Rattle.icescan_c.specs.Making.{Holds, Makes, asked, finished, made, relaxing, started, telling_columns};
 
 use crate::held::Held;
 use crate::questions::{Answer, SharedScan};
 use crate::states::State;
 use contract_words::Items;
-use icescan_audit::{HandedAudit, Subject, select_subject};
 use icescan_c_requests::{Refusal, columns_json, fault_line};
 use icescan_relaxed::relax_request;
 use icescan_text::{Request, RunFault};
@@ -26,8 +24,6 @@ pub enum Making {
     Relaxed,
     /// The columns that a filter of the snapshot names.
     Columns,
-    /// The snapshot, to be audited.
-    Audit,
 }
 
 /// What a request selects of the table whose metadata these are the bytes of.
@@ -58,16 +54,6 @@ fn told_columns(alloc: Global, metadata: &[u8], request: Request) -> Result<Held
     Ok(Held::Text(text?))
 }
 
-/// The request's snapshot to be audited, of the table whose metadata these are the bytes of.
-#[tactic(auto, unfolding(crate::specs::Making::auditing))]
-fn audited(alloc: Global, metadata: &[u8], request: Request) -> Result<Held, RunFault>
-    ensures { Gives RunFault.Memory (λ held. held) result (auditing metadata.now request) }
-{
-    let subject = select_subject(alloc, metadata, &request.target);
-    drop(request);
-    Ok(Held::Subject(subject?))
-}
-
 /// What is asked to be made of the table whose metadata these are the bytes of.
 fn made(alloc: Global, making: Making, metadata: &[u8], request: Request) -> Result<Held, RunFault>
     ensures { Gives RunFault.Memory (λ held. held) result (made making metadata.now request) }
@@ -76,7 +62,6 @@ fn made(alloc: Global, making: Making, metadata: &[u8], request: Request) -> Res
         Making::Scan => asked(alloc, metadata, request),
         Making::Relaxed => relaxed(alloc, metadata, request),
         Making::Columns => told_columns(alloc, metadata, request),
-        Making::Audit => audited(alloc, metadata, request),
     }
 }
 
@@ -86,30 +71,6 @@ fn started(alloc: Global, answer: Answer, list: &[u8]) -> Result<Held, RunFault>
     ensures { Gives RunFault.Memory (λ held. held) result (started answer list.now) }
 {
     Ok(Held::Scan(SharedScan::start(alloc, answer, list)?))
-}
-
-/// The audit of a snapshot whose manifest list these are the bytes of.
-#[tactic(auto, unfolding(crate::specs::Making::opening))]
-fn opened(alloc: Global, subject: Subject, list: &[u8]) -> Result<Held, RunFault>
-    ensures { Gives RunFault.Memory (λ held. held) result (opening subject list.now) }
-{
-    Ok(Held::Audit(HandedAudit::open(alloc, subject, list)?))
-}
-
-/// The audit with the next manifest, which has these bytes.
-#[tactic(auto, unfolding(crate::specs::Making::handing))]
-fn handed(alloc: Global, audit: HandedAudit, manifest: &[u8]) -> Result<Held, RunFault>
-    ensures { Gives RunFault.Memory (λ held. held) result (handing audit manifest.now) }
-{
-    Ok(Held::Audit(audit.take(alloc, manifest)?))
-}
-
-/// What an audit found.
-#[tactic(auto, unfolding(crate::specs::Making::telling_audit))]
-fn told_audit(alloc: Global, audit: HandedAudit) -> Result<Held, RunFault>
-    ensures { Gives RunFault.Memory (λ held. held) result (telling_audit audit) }
-{
-    Ok(Held::Text(audit.into_json(alloc)?))
 }
 
 /// The plan of what a state took.
@@ -168,7 +129,6 @@ impl Held {
     {
         match replace(self, Held::Nothing) {
             Held::Selection(answer) => self.hold(alloc, started(alloc, answer, list)),
-            Held::Subject(subject) => self.hold(alloc, opened(alloc, subject, list)),
             held => {
                 self.set(held);
                 Err(Refusal::Kind)
@@ -183,26 +143,6 @@ impl Held {
         match self {
             Held::State(state) => state.take(i, manifest),
             _ => Err(Refusal::Kind),
-        }
-    }
-
-    /// Hands the manifest of the next row to an audit, or holds the line of the fault. `Kind` where it held none, and
-    /// `PastEnd` where each row's was handed in.
-    pub fn hand(&mut self, alloc: Global, manifest: &[u8]) -> Result<(), Refusal>
-        ensures { Hands manifest.now self.old result self.new }
-    {
-        match replace(self, Held::Nothing) {
-            Held::Audit(audit) => match audit.rows().get(audit.handed()) {
-                Some(_) => self.hold(alloc, handed(alloc, audit, manifest)),
-                None => {
-                    self.set(Held::Audit(audit));
-                    Err(Refusal::PastEnd)
-                }
-            },
-            held => {
-                self.set(held);
-                Err(Refusal::Kind)
-            }
         }
     }
 
@@ -238,7 +178,6 @@ impl Held {
     {
         match replace(self, Held::Nothing) {
             Held::State(state) => self.hold(alloc, finished(alloc, state)),
-            Held::Audit(audit) => self.hold(alloc, told_audit(alloc, audit)),
             held => {
                 self.set(held);
                 Err(Refusal::Kind)
