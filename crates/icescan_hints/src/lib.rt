@@ -10,7 +10,6 @@ mod commit;
 mod commits;
 mod drill;
 mod fields;
-mod filter;
 mod lineage;
 mod looks;
 mod manifest;
