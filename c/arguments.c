@@ -188,10 +188,6 @@ uint32_t icescan_reason(icescan_handle *handle, icescan_reason_of *reason) {
     return handle && reason ? proved_icescan_reason(handle, reason) : ICESCAN_NULL;
 }
 
-uint32_t icescan_hint(icescan_handle *handle, icescan_bytes *lines) {
-    return handle && lines ? proved_icescan_hint(handle, lines) : ICESCAN_NULL;
-}
-
 void icescan_free(icescan_handle *handle) {
     if (handle)
         proved_icescan_free(handle);

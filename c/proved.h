@@ -41,7 +41,6 @@ uint32_t proved_icescan_columns_new_at(icescan_handle *columns, const uint8_t *m
 uint32_t proved_icescan_text(icescan_handle *handle, icescan_bytes *text);
 uint32_t proved_icescan_fault(icescan_handle *handle, icescan_bytes *line);
 uint32_t proved_icescan_reason(icescan_handle *handle, icescan_reason_of *reason);
-uint32_t proved_icescan_hint(icescan_handle *handle, icescan_bytes *lines);
 void proved_icescan_free(icescan_handle *handle);
 
 #endif

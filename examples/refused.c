@@ -88,7 +88,6 @@ static void nothing(const char *what, icescan_handle *none) {
     want(what, icescan_text(none, &bytes), ICESCAN_KIND);
     want(what, icescan_fault(none, &bytes), ICESCAN_KIND);
     want(what, icescan_reason(none, &reason), ICESCAN_KIND);
-    want(what, icescan_hint(none, &bytes), ICESCAN_KIND);
     if (other.held || bytes.len != 6 || count != 77 || file.record_count != 77 || value.whole != 77 ||
         reason.letter != 77 || reason.number != 77)
         want(what, 1, 0);
@@ -147,8 +146,6 @@ static void null(icescan_handle *scan) {
     want("null text", icescan_text(scan, NULL), ICESCAN_NULL);
     want("null handle", icescan_reason(NULL, &reason), ICESCAN_NULL);
     want("null reason", icescan_reason(scan, NULL), ICESCAN_NULL);
-    want("null handle", icescan_hint(NULL, &bytes), ICESCAN_NULL);
-    want("null lines", icescan_hint(scan, NULL), ICESCAN_NULL);
     want("null handle", icescan_fault(NULL, &bytes), ICESCAN_NULL);
     want("null line", icescan_fault(scan, NULL), ICESCAN_NULL);
     icescan_free(NULL);
@@ -181,17 +178,11 @@ static void relaxed(struct file metadata) {
     null_relaxed(&made);
     want("no JSON", icescan_relax_new(&made, text("{]"), 2, NULL, 0, text("true"), 4), ICESCAN_TABLE);
     want_line("no JSON", &made, "icescan: M");
-    want("no JSON's hint", icescan_hint(&made, &bytes), ICESCAN_OK);
-    if (bytes.len)
-        want("metadata that is no JSON has no hint", 1, 0);
     want("no UTF-8", icescan_relax_new(&made, metadata.bytes, metadata.len, text("\xff"), 1, NULL, 0),
          ICESCAN_ENCODING);
     want_line("no UTF-8: what was held stays", &made, "icescan: M");
     want("bad filter", icescan_relax_new(&made, metadata.bytes, metadata.len, NULL, 0, text("= ="), 3), ICESCAN_ASKED);
     want_line("bad filter", &made, "icescan: F");
-    want("bad filter's hint", icescan_hint(&made, &bytes), ICESCAN_OK);
-    if (bytes.len < 13 || memcmp(bytes.at, "  F1 Syntax: ", 13) != 0 || bytes.at[bytes.len - 1] != '\n')
-        want("a hint begins with the refusal's name and ends a line", 1, 0);
     want("a fault is no filter", icescan_relax_filter(&made, &bytes), ICESCAN_KIND);
     want("no filter", icescan_relax_new(&made, metadata.bytes, metadata.len, NULL, 0, NULL, 0), ICESCAN_OK);
     want("no filter", icescan_relax_filter(&made, &bytes), ICESCAN_OK);

@@ -313,12 +313,6 @@ uint32_t icescan_fault(icescan_handle *handle, icescan_bytes *line);
 /* Tells the number of the refusal whose line a handle holds: the first number of the line. */
 uint32_t icescan_reason(icescan_handle *handle, icescan_reason_of *reason);
 
-/* Lends the hint of a refused filter, for people: the lines that `icescan plan --explain` prints after the line of the
- * fault, in which a control byte of a name stands as `?`. They say what is wrong, which place or column of the filter
- * it is about and which names are near, and what to do. There are no bytes for another refusal: docs/REFUSALS.md says
- * by its number what to do. */
-uint32_t icescan_hint(icescan_handle *handle, icescan_bytes *lines);
-
 /* Lets go what a handle holds. A handle that holds nothing, as one that was freed, may be freed again; so may NULL. */
 void icescan_free(icescan_handle *handle);
 

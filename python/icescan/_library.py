@@ -146,7 +146,6 @@ CALLS = {
     "text": (POINTER(Bytes),),
     "fault": (POINTER(Bytes),),
     "reason": (POINTER(Reason),),
-    "hint": (POINTER(Bytes),),
 }
 
 
@@ -200,16 +199,15 @@ class Held:
         if status:
             raise BY_STATUS.get(status, Error)(*(self.fault() if status in WITH_LINE else ()))
 
-    def fault(self) -> Tuple[str, str, str]:
-        """The line of the fault that it holds, as an exception tells it, the refusal's number, and its hint; "" where
-        it has none."""
-        line, reason, hint = Bytes(), Reason(), Bytes()
+    def fault(self) -> Tuple[str, str]:
+        """The line of the fault that it holds, as an exception tells it, and the refusal's number; "" where it has
+        none."""
+        line, reason = Bytes(), Reason()
         if self.library.icescan_fault(byref(self.handle), byref(line)):
-            return "", "", ""
+            return "", ""
         self.library.icescan_reason(byref(self.handle), byref(reason))
-        self.library.icescan_hint(byref(self.handle), byref(hint))
         text = line.text().rstrip("\n")
-        return text[len("icescan: "):] if text.startswith("icescan: ") else text, reason.text(), hint.text()
+        return text[len("icescan: "):] if text.startswith("icescan: ") else text, reason.text()
 
     def count(self, name: str) -> int:
         """The count that the function of this name tells."""

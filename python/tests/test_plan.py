@@ -292,15 +292,6 @@ class Refusals(unittest.TestCase):
         self.refused(icescan.FilterError, "F2", filter="colour = 'red' or amount > 5", relax=True)
         self.refused(icescan.EncodingError, "", filter="cat = '\ud800'")
 
-    def test_hints(self):
-        hint = self.refused(icescan.FilterError, "F2", filter="locaton = 'red'").hint
-        self.assertIn("\n  here: `locaton` is no column; nearest to it: `location`", hint)
-        self.assertRegex(hint, r"\A  F2 NoSuchColumn: .*\n(.*\n)*  to do: .*\n(.*\n)*\Z")
-        self.assertIn("`amount`: double", self.refused(icescan.FilterError, "F4", filter="amount > 5").hint)
-        self.assertIn("equality is one `=`", self.refused(icescan.FilterError, "F1", filter="id == 5").hint)
-        self.assertIn("does not take", self.refused(icescan.FilterError, "F3", filter="id = 'red'", relax=True).hint)
-        self.assertEqual(self.refused(icescan.TableError, "M7", snapshot=1, filter="id = 42").hint, "")
-
     def test_of_a_snapshot(self):
         self.assertIsInstance(self.refused(icescan.TableError, "M6", ref="nowhere"), icescan.Error)
         self.refused(icescan.TableError, "M7", snapshot=1)

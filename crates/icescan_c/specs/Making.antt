@@ -17,13 +17,11 @@ use Rattle.icescan_text.specs.declared.fault.RunFault.{RunFault}
 use Rattle.icescan_text.specs.declared.fault.RunFault.TheVariants as run
 use Rattle.icescan_text.specs.declared.request.Request.{Request}
 use Rattle.icescan_c.specs.Kept.{Answered, AskedScan, Kept}
-use Rattle.icescan_c.specs.declared.held.FaultTexts.{FaultTexts}
 use Rattle.icescan_c.specs.declared.held.Held.{Held}
 use Rattle.icescan_c.specs.declared.held.Held.TheVariants as held
 use Rattle.icescan_c.specs.declared.states.ScanPlan.{ScanPlan}
 use Rattle.icescan_c.specs.declared.working.Making.{Making}
 use Rattle.icescan_c.specs.declared.working.Making.TheVariants as making
-use Rattle.icescan_c_requests.specs.Hints.{IsHint}
 use Rattle.icescan_c_requests.specs.declared.endings.Refusal.{Refusal}
 use Rattle.icescan_c_requests.specs.declared.endings.Refusal.TheVariants as refusal
 
@@ -82,18 +80,14 @@ finished kept = do
   plan ← planned kept
   Ok (held.Plan plan)
 
--- the line of a fault is held, or no bytes where memory ran out for it; and a hint
-abbrev pub AreTextsOf : RunFault → FaultTexts → Type 0
-AreTextsOf fault texts = ((texts.line ≡ fault_text fault) ⊎ (texts.line ≡ [])) × IsHint texts.hint
+-- the line of a fault is held, or no bytes where memory ran out for it
+abbrev pub IsLineOf : RunFault → Held → Type 0
+IsLineOf fault after = (after ≡ held.Fault (fault_text fault)) ⊎ (after ≡ held.Fault [])
 
-abbrev pub HoldsFault : RunFault → Held → Type 0
-HoldsFault fault (held.Fault texts) = AreTextsOf fault texts
-HoldsFault fault other = ⊥
-
--- what was made is held, or the texts of the fault, with whose status the call ends
+-- what was made is held, or the line of the fault, with whose status the call ends
 abbrev pub Holds : Result Held RunFault → Result Unit Refusal → Held → Type 0
 Holds (Ok made) ended after = (ended ≡ Ok tt) × (after ≡ made)
-Holds (Err fault) ended after = (ended ≡ Err (refusal.Fault (fault_status fault))) × HoldsFault fault after
+Holds (Err fault) ended after = (ended ≡ Err (refusal.Fault (fault_status fault))) × IsLineOf fault after
 
 -- that is held which reading gives, unless memory ran out
 abbrev pub Makes : Result Held RunFault → Result Unit Refusal → Held → Type 0

@@ -26,12 +26,8 @@ use Rattle.icescan_c_requests.specs.declared.reason.Reason.{Reason}
 -- ---- what is found
 
 abbrev pub fault_in : Held → Result (List ℕ) Refusal
-fault_in (held.Fault texts) = Ok texts.line
+fault_in (held.Fault line) = Ok line
 fault_in other = Err refusal.Kind
-
-abbrev pub hint_in : Held → Result (List ℕ) Refusal
-hint_in (held.Fault texts) = Ok texts.hint
-hint_in other = Err refusal.Kind
 
 abbrev pub text_in : Held → Result (List ℕ) Refusal
 text_in (held.Text text) = Ok text

@@ -22,15 +22,6 @@ pub enum Held {
     Plan(ScanPlan),
     /// Lines of JSON.
     Text(Items<u8>),
-    /// What tells why there is none of these.
-    Fault(FaultTexts),
-}
-
-/// What tells of a fault.
-#[derive(Drop)]
-pub struct FaultTexts {
-    /// The line; no bytes where memory ran out for it.
-    pub line: Items<u8>,
-    /// The lines of the hint; no bytes where there is none.
-    pub hint: Items<u8>,
+    /// The line that tells why there is none of these; no bytes where memory ran out for it.
+    Fault(Items<u8>),
 }

@@ -3,9 +3,9 @@
 ghost use Rattle.std.specs.Prelude.{◌≡◌, Err, IfErr, IfOk, Ok, slice_get};
 ghost use Rattle.icescan_c.specs.Readings.{IsCount, IsDeleteOf, IsFileOfLine, IsReason, IsTyped, OfPlaced, Tells};
 ghost use Rattle.icescan_c.specs.Readings.{TellsCountOfDeletes, TellsDelete, TellsDeleteValue, at_place, count_of};
-ghost use Rattle.icescan_c.specs.Readings.{equalities_of, fault_in, filter_of, hint_in, lines_in, list_in, or_past};
-ghost use Rattle.icescan_c.specs.Readings.{path_of, plan_in, positions_of, relaxed_in, text_in, unasked_of, value_at};
-ghost use Rattle.icescan_c.specs.Readings.{value_of, wanted_in};
+ghost use Rattle.icescan_c.specs.Readings.{equalities_of, fault_in, filter_of, lines_in, list_in, or_past, path_of};
+ghost use Rattle.icescan_c.specs.Readings.{plan_in, positions_of, relaxed_in, text_in, unasked_of, value_at, value_of};
+ghost use Rattle.icescan_c.specs.Readings.{wanted_in};
 ghost use Rattle.icescan_c_files.specs.Lent.{AreLent};
 ghost use Rattle.icescan_c_requests.specs.Statuses.{status_of};
 ghost use Rattle.icescan_json.specs.Values.{type_at};
@@ -60,8 +60,8 @@ impl Held {
         ensures { Tells AreLent (fault_in self.now) line.old (status_of result) line.new }
     {
         match self {
-            Held::Fault(texts) => {
-                *line = Bytes::of(texts.line.as_slice());
+            Held::Fault(text) => {
+                *line = Bytes::of(text.as_slice());
                 Ok(())
             }
             _ => Err(Refusal::Kind),
@@ -73,21 +73,8 @@ impl Held {
         ensures { Tells IsReason (fault_in self.now) reason.old (status_of result) reason.new }
     {
         match self {
-            Held::Fault(texts) => {
-                *reason = Reason::of_line(texts.line.as_slice());
-                Ok(())
-            }
-            _ => Err(Refusal::Kind),
-        }
-    }
-
-    /// Lends the lines of a fault's hint.
-    pub fn lend_hint(&self, lines: &mut Bytes) -> Result<(), Refusal>
-        ensures { Tells AreLent (hint_in self.now) lines.old (status_of result) lines.new }
-    {
-        match self {
-            Held::Fault(texts) => {
-                *lines = Bytes::of(texts.hint.as_slice());
+            Held::Fault(text) => {
+                *reason = Reason::of_line(text.as_slice());
                 Ok(())
             }
             _ => Err(Refusal::Kind),

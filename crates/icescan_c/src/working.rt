@@ -4,13 +4,12 @@ ghost use Rattle.std.specs.Prelude.{◌≡◌};
 ghost use Rattle.contract_words.specs.Outcome.{Gives};
 ghost use Rattle.icescan_c.specs.Calls.{Finishes, Merges, Starts, Takes};
 ghost use Rattle.icescan_c.specs.Making.{Holds, Makes, asked, finished, made, relaxing, started, telling_columns};
-ghost use Rattle.icescan_c_requests.specs.Hints.{IsHint};
 
-use crate::held::{FaultTexts, Held};
+use crate::held::Held;
 use crate::questions::{Answer, SharedScan};
 use crate::states::State;
 use contract_words::Items;
-use icescan_c_requests::{Refusal, columns_json, fault_line, filter_hint};
+use icescan_c_requests::{Refusal, columns_json, fault_line};
 use icescan_relaxed::relax_request;
 use icescan_text::{Request, RunFault};
 use std::alloc::Global;
@@ -29,54 +28,41 @@ pub enum Making {
 
 /// What a request selects of the table whose metadata these are the bytes of.
 #[tactic(auto, unfolding(crate::specs::Making::asked))]
-fn asked(alloc: Global, metadata: &[u8], request: &Request) -> Result<Held, RunFault>
-    ensures { Gives RunFault.Memory (λ held. held) result (asked metadata.now request.now) }
+fn asked(alloc: Global, metadata: &[u8], request: Request) -> Result<Held, RunFault>
+    ensures { Gives RunFault.Memory (λ held. held) result (asked metadata.now request) }
 {
     Ok(Held::Selection(Answer::read(alloc, metadata, request)?))
 }
 
 /// The request whose filter is relaxed, of the table whose metadata these are the bytes of.
 #[tactic(auto, unfolding(crate::specs::Making::relaxing))]
-fn relaxed(alloc: Global, metadata: &[u8], request: &Request) -> Result<Held, RunFault>
-    ensures { Gives RunFault.Memory (λ held. held) result (relaxing metadata.now request.now) }
+fn relaxed(alloc: Global, metadata: &[u8], request: Request) -> Result<Held, RunFault>
+    ensures { Gives RunFault.Memory (λ held. held) result (relaxing metadata.now request) }
 {
-    Ok(Held::Relaxed(relax_request(alloc, metadata, request)?))
+    let made = relax_request(alloc, metadata, &request);
+    drop(request);
+    Ok(Held::Relaxed(made?))
 }
 
 /// The columns that a filter of the request's snapshot names, of the table whose metadata these are the bytes of.
 #[tactic(auto, unfolding(crate::specs::Making::telling_columns))]
-fn told_columns(alloc: Global, metadata: &[u8], request: &Request) -> Result<Held, RunFault>
-    ensures { Gives RunFault.Memory (λ held. held) result (telling_columns metadata.now request.now) }
+fn told_columns(alloc: Global, metadata: &[u8], request: Request) -> Result<Held, RunFault>
+    ensures { Gives RunFault.Memory (λ held. held) result (telling_columns metadata.now request) }
 {
-    Ok(Held::Text(columns_json(alloc, metadata, &request.target)?))
+    let text = columns_json(alloc, metadata, &request.target);
+    drop(request);
+    Ok(Held::Text(text?))
 }
 
 /// What is asked to be made of the table whose metadata these are the bytes of.
-fn made(alloc: Global, making: Making, metadata: &[u8], request: &Request) -> Result<Held, RunFault>
-    ensures { Gives RunFault.Memory (λ held. held) result (made making metadata.now request.now) }
+fn made(alloc: Global, making: Making, metadata: &[u8], request: Request) -> Result<Held, RunFault>
+    ensures { Gives RunFault.Memory (λ held. held) result (made making metadata.now request) }
 {
     match making {
         Making::Scan => asked(alloc, metadata, request),
         Making::Relaxed => relaxed(alloc, metadata, request),
         Making::Columns => told_columns(alloc, metadata, request),
     }
-}
-
-/// The hint of a filter that was refused; no bytes after another end, or where memory ran out for it.
-fn hint_of(
-    alloc: Global,
-    metadata: &[u8],
-    request: &Request,
-    made: &Result<Held, RunFault>,
-) -> Items<u8>
-    ensures { IsHint result }
-{
-    if let Err(RunFault::Filter(fault)) = made
-        && let Ok(hint) = filter_hint(alloc, metadata, request, *fault)
-    {
-        return hint;
-    }
-    Items::new(alloc)
 }
 
 /// The scan of what was selected, whose manifest list these are the bytes of.
@@ -103,14 +89,8 @@ impl Held {
         *self = held;
     }
 
-    /// Holds what was made, or the line of the fault and this hint; no bytes where memory ran out for the line.
-    fn hold_with(
-        &mut self,
-        alloc: Global,
-        made: Result<Held, RunFault>,
-        hint: Items<u8>,
-    ) -> Result<(), Refusal>
-        requires { IsHint hint }
+    /// Holds what was made, or the line of the fault; no bytes where memory ran out for the line.
+    fn hold(&mut self, alloc: Global, made: Result<Held, RunFault>) -> Result<(), Refusal>
         ensures { Holds made result self.new }
     {
         match made {
@@ -119,11 +99,10 @@ impl Held {
                 Ok(())
             }
             Err(fault) => {
-                let line = match fault_line(alloc, &fault) {
+                self.set(Held::Fault(match fault_line(alloc, &fault) {
                     Ok(line) => line,
-                    Err(_) => Items::new(alloc),
-                };
-                self.set(Held::Fault(FaultTexts { line, hint }));
+                    Err(_) => Items::from_vec(Vec::new(alloc)),
+                }));
                 let status = fault.status();
                 drop(fault);
                 Err(Refusal::Fault(status))
@@ -131,26 +110,17 @@ impl Held {
         }
     }
 
-    /// The same without a hint.
-    fn hold(&mut self, alloc: Global, made: Result<Held, RunFault>) -> Result<(), Refusal>
-        ensures { Holds made result self.new }
-    {
-        self.hold_with(alloc, made, Items::new(alloc))
-    }
-
-    /// Holds what is made of a table's metadata and a request, or the line of the fault, and the hint of a filter.
+    /// Holds what is made of a table's metadata and a request, or the line of the fault.
     pub fn ask(
         &mut self,
         alloc: Global,
         making: Making,
         metadata: &[u8],
-        request: &Request,
+        request: Request,
     ) -> Result<(), Refusal>
         ensures { Makes (made making metadata.now request) result self.new }
     {
-        let made = made(alloc, making, metadata, request);
-        let hint = hint_of(alloc, metadata, request, &made);
-        self.hold_with(alloc, made, hint)
+        self.hold(alloc, made(alloc, making, metadata, request))
     }
 
     /// Holds the scan of what was selected, or the line of the fault. `Kind` where it held no selection.

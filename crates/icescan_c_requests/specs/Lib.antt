@@ -1,4 +1,3 @@
-pub mod Hints
 pub mod Reasons
 pub mod Requests
 pub mod Statuses

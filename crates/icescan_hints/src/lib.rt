@@ -10,6 +10,7 @@ mod commit;
 mod commits;
 mod drill;
 mod fields;
+mod filter;
 mod lineage;
 mod looks;
 mod manifest;

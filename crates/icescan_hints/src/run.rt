@@ -3,6 +3,7 @@
 use crate::avro::of_container;
 use crate::commit::{of_change, of_prepare};
 use crate::drill::of_drill;
+use crate::filter::of_filter;
 use crate::lineage::of_lineage;
 use crate::manifest::{of_list, of_manifest};
 use crate::metadata::of_metadata;
@@ -12,7 +13,7 @@ use avro_file::AvroFault;
 use ice_manifest_reading::{ListFault, ManifestFault};
 use ice_meta_files::NewestFault;
 use ice_state::FinishFault;
-use icescan_hint_texts::{MEMORY, Sentence, of_filter};
+use icescan_hint_texts::{MEMORY, Sentence};
 use icescan_text::RunFault;
 use std::alloc::{AllocError, Global};
 

@@ -1,7 +1,7 @@
 //! The words of refusals of filters.
 
-use crate::sentence::{MEMORY, Sentence};
 use ice_filter::FilterFault;
+use icescan_hint_texts::{MEMORY, Sentence};
 
 const SYNTAX: Sentence = Sentence {
     name: "F1 Syntax",
