@@ -22,6 +22,7 @@ mod paths;
 mod plan;
 mod run;
 mod schema;
+mod state;
 mod tables;
 mod telling;
 
