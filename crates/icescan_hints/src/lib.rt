@@ -22,7 +22,6 @@ mod paths;
 mod plan;
 mod run;
 mod schema;
-mod state;
 mod tables;
 mod telling;
 

@@ -25,13 +25,11 @@ twice would both be a guess",
     ),
 };
 
-/// A plan reads each wanted manifest before it is made, so none is missing; of states one may be.
+/// The scan reads each wanted manifest before it makes a plan, so none is missing.
 const MISSING: Sentence = Sentence {
     name: "Z1 Missing",
-    wrong: "no state of those that were given has the manifest at this path; of several, the least path",
-    advice: Some(
-        "take the shares that are missing, as `take --part 3/8`, and finish with their states too",
-    ),
+    wrong: "a manifest was not read",
+    advice: Some("nothing that a user does leads here: report it"),
 };
 
 /// What a refusal of a scan says.

@@ -9,7 +9,6 @@ use crate::manifest::{of_list, of_manifest};
 use crate::metadata::of_metadata;
 use crate::plan::{of_finish, of_scan};
 use crate::schema::of_schema;
-use crate::state::of_state;
 use avro_file::AvroFault;
 use ice_manifest_reading::{ListFault, ManifestFault};
 use ice_meta_files::NewestFault;
@@ -130,7 +129,6 @@ fn sentence_of(fault: &RunFault, commits: bool) -> Option<Sentence> {
         RunFault::Drill(fault) => of_drill(fault),
         RunFault::Locate(fault) => of_newest(fault),
         RunFault::Lineage(fault) => of_lineage(*fault),
-        RunFault::State(_, flaw) => of_state(*flaw),
         RunFault::Change(fault) => of_change(*fault),
         RunFault::Prepare(fault) => of_prepare(fault),
         RunFault::Conflict(_) => CONFLICT,

@@ -3,7 +3,6 @@ pub mod Decimals
 pub mod Values
 pub mod Types
 pub mod Expressions
-pub mod Finished
 pub mod ExpressionTexts
 pub mod PlanJson
 pub mod Told

@@ -7,7 +7,6 @@ mod dates;
 mod decimals;
 mod expressions;
 mod files;
-mod finished;
 mod json_text;
 mod laws;
 mod list_plans;
@@ -20,7 +19,6 @@ mod values;
 
 pub use answers::{json_answers_are_plans, json_answers_tell_plans};
 pub use expressions::Expression;
-pub use finished::finish_file_json;
 pub use laws::{json_is_the_plan, json_reads_back, json_tells_all};
 pub use list_plans::run_list_plan_json;
 pub use plan::{write_plan_json, write_typed_plan};

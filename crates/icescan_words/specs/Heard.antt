@@ -9,7 +9,6 @@ use Rattle.icescan_forms.specs.declared.format.Format.{Format}
 use Rattle.icescan_forms.specs.declared.format.Format.TheVariants as format
 use Rattle.icescan_forms.specs.declared.part.Part.{Part}
 use Rattle.icescan_forms.specs.declared.part.Part.TheVariants as part
-use Rattle.icescan_words.specs.declared.command.Asked.{Asked}
 use Rattle.icescan_words.specs.declared.command.Command.{Command}
 use Rattle.icescan_words.specs.declared.command.Command.TheVariants as command
 use Rattle.icescan_words.specs.declared.command.Lists.{Lists}
@@ -28,17 +27,12 @@ use Rattle.icescan_text.specs.declared.request.ChangesRequest.{ChangesRequest}
 use Rattle.icescan_text.specs.declared.request.CommitRequest.{CommitRequest}
 use Rattle.ice_catalog_changes.specs.declared.change.Ids.{Ids}
 use Rattle.icescan_text.specs.declared.request.Request.{Request}
-use Rattle.icescan_text.specs.declared.share.Share.{Share}
 use Rattle.icescan_text.specs.declared.request.Separator.TheVariants as separator
 use Rattle.icescan_text.specs.declared.drill.Drill.{Drill}
 
 -- `=`
 abbrev pub is_equals : ℕ → Bool
 is_equals byte = byte == 61
-
--- `/`
-abbrev pub is_slash : ℕ → Bool
-is_slash byte = byte == 47
 
 -- the value of an option: what stands after `=` in its word, or else the next word
 abbrev pub value_in : List ℕ → List (List ℕ) → Option (List ℕ)
@@ -166,9 +160,6 @@ command_name (command.Relaxed what from request form workers path) = relaxed_nam
 command_name (command.Changes from request form workers path) = codes "changes"
 command_name (command.Reachable from part form path) = codes "reachable"
 command_name (command.Orphans place older form path) = codes "orphans"
-command_name (command.Take from asked share workers path) = codes "take"
-command_name (command.Join states) = codes "join"
-command_name (command.Finish from asked states form workers path) = codes "finish"
 command_name (command.Drill drill) = codes "drill"
 command_name (command.Text text) = codes "help"
 
@@ -224,16 +215,6 @@ module _ (words : List (List ℕ)) where
   abbrev pub HasWorkers : ℕ → Type 0
   HasWorkers workers = workers ≡ workers_by (option_in words (codes "--workers"))
 
-  -- the plan that is asked for, under its filter as it stands or relaxed
-  abbrev pub HasAsked : Asked → Type 0
-  HasAsked asked = HasRequest asked.request × IsRelaxed asked.relaxed
-
-  -- --part is the share's number, a slash, and how many shares there are
-  abbrev pub HasShare : Share → Type 0
-  HasShare share = (text : List ℕ) × (option_in words (codes "--part") ≡ Some text)
-      × (unsigned (Some (before_first is_slash text)) ≡ Some share.number)
-      × (unsigned (Some (after_first is_slash text)) ≡ Some share.count)
-
   pub record HasIds (ids : Ids) : Type 0 where
     pub snapshot : signed (option_in words (codes "--snapshot-id")) ≡ Some ids.snapshot
     pub uuid : option_and_then parsed (option_in words (codes "--uuid")) ≡ Some ids.uuid
@@ -279,11 +260,5 @@ module _ (words : List (List ℕ)) where
       Names (codes "reachable") path × HasSource from × HasPart part × HasFormat form
   AsksFor (command.Orphans place older form path) = Names (codes "orphans") path × HasSource (source.Folder place)
       × (unsigned (option_in words (codes "--older-than-ms")) ≡ Some older) × HasFormat form
-  AsksFor (command.Take from asked share workers path) =
-      Names (codes "take") path × HasSource from × HasAsked asked × HasShare share × HasWorkers workers
-  AsksFor (command.Join states) = plain_words words ≡ codes "join" ∷ states.paths
-  AsksFor (command.Finish from asked states form workers path) =
-      (plain_words words ≡ codes "finish" ∷ path ∷ states.paths) × HasSource from × HasAsked asked × HasFormat form
-      × HasWorkers workers
   AsksFor (command.Drill drill) = HasDrill drill
   AsksFor (command.Text text) = list_any asks_help words ≡ true

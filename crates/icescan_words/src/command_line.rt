@@ -16,7 +16,6 @@ use crate::parameters::{
     THREADS, UUID, WORKERS,
 };
 use crate::reachable_command::reachable_command;
-use crate::shares_commands::{finish_command, join_command, take_command};
 use clap::{Arg, ArgGroup, Command};
 use std::alloc::{AllocError, Global};
 
@@ -34,9 +33,6 @@ enum Name {
     Changes,
     Reachable,
     Orphans,
-    Take,
-    Join,
-    Finish,
     Drill,
 }
 
@@ -54,9 +50,6 @@ const NAMES: &[Name] = &[
     Name::Changes,
     Name::Reachable,
     Name::Orphans,
-    Name::Take,
-    Name::Join,
-    Name::Finish,
     Name::Drill,
 ];
 
@@ -231,9 +224,6 @@ fn command<'a>(alloc: Global, name: &Name) -> Result<Command<'a>, AllocError> {
         Name::Changes => changes_command(alloc),
         Name::Reachable => reachable_command(alloc),
         Name::Orphans => orphans_command(alloc),
-        Name::Take => take_command(alloc),
-        Name::Join => join_command(alloc),
-        Name::Finish => finish_command(alloc),
         Name::Drill => drill_command(alloc),
     }
 }

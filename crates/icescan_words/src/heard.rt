@@ -7,7 +7,7 @@ ghost use Rattle.uuid.specs.Text.{parsed};
 ghost use Rattle.icescan_words.specs.Heard.{HasAppends, HasChanges, HasNamedPlan, IsNamed, IsRelaxed, relaxed_name};
 ghost use Rattle.icescan_words.specs.Heard.{AsksFor, HasCommit, HasDrill, HasFormat, HasIds, HasRequest, HasSource};
 ghost use Rattle.icescan_words.specs.Heard.{HasLocated, HasPart, HasTarget, HasWorkers, Names, asks_help, is_equals};
-ghost use Rattle.icescan_words.specs.Heard.{HasAsked, HasShare, IsOfAll, is_flag, is_slash};
+ghost use Rattle.icescan_words.specs.Heard.{IsOfAll, is_flag};
 ghost use Rattle.icescan_words.specs.Heard.{list_of, name_of};
 ghost use Rattle.icescan_words.specs.Heard.{option_in, option_items, plain_words, located_by, signed, source_of};
 ghost use Rattle.icescan_words.specs.Heard.{takes_next};
@@ -15,12 +15,12 @@ ghost use Rattle.icescan_words.specs.Heard.{unsigned};
 ghost use Rattle.icescan_words.specs.declared.command.Source.TheVariants as source;
 
 use crate::answer_format::format_by;
-use crate::command::{Asked, Command, Lists, Located, Place, Relaxed, Source, States};
+use crate::command::{Command, Lists, Located, Place, Relaxed, Source};
 use contract_words::Text;
 use ice_catalog_changes::Ids;
 use ice_meta::Target;
 use icescan_forms::{Format, Part};
-use icescan_text::{ChangeKind, ChangesRequest, CommitRequest, Drill, Request, Separator, Share};
+use icescan_text::{ChangeKind, ChangesRequest, CommitRequest, Drill, Request, Separator};
 use std::alloc::{AllocError, Global};
 use uuid::Uuid;
 
@@ -579,84 +579,6 @@ fn has_age_told(words: &[String], place: &Place, older_than_ms: u64, format: For
     has_age(words, place, older_than_ms) && has_format(words, format)
 }
 
-/// Whether the words ask for this plan, under its filter as it stands or relaxed.
-fn has_asked(words: &[String], asked: &Asked) -> bool
-    ensures { IsTrue result → HasAsked (map string_bytes words.now) asked.now }
-{
-    has_request(words, &asked.request) && is_relaxed(words, asked.relaxed)
-}
-
-/// Whether a text is a share's number, a slash, and how many shares there are.
-fn is_share(text: &str, share: Share) -> bool
-    ensures { IsTrue result → (unsigned (Some (before_first is_slash text.now)) ≡ Some share.number)
-        × (unsigned (Some (after_first is_slash text.now)) ≡ Some share.count) }
-{
-    match text.split_once('/') {
-        Some((number, count)) => {
-            is_unsigned(Some(number), share.number()) && is_unsigned(Some(count), share.count())
-        }
-        None => false,
-    }
-}
-
-/// Whether the words ask for this share.
-fn has_share(words: &[String], share: Share) -> bool
-    ensures { IsTrue result → HasShare (map string_bytes words.now) share }
-{
-    match option_in(words, "--part") {
-        Some(text) => is_share(text, share),
-        None => false,
-    }
-}
-
-/// Whether the words ask for this share of this plan, by so many workers.
-fn has_take(words: &[String], asked: &Asked, share: Share, workers: usize) -> bool
-    ensures { IsTrue result → HasAsked (map string_bytes words.now) asked.now
-        × HasShare (map string_bytes words.now) share × HasWorkers (map string_bytes words.now) workers }
-{
-    has_asked(words, asked) && has_share(words, share) && has_workers(words, workers)
-}
-
-/// Whether words are these texts.
-fn are_texts(words: &[&str], texts: &[Text]) -> bool
-    ensures { IsTrue result → map (λ s. s.now) words.now ≡ texts.now }
-{
-    if words.len() != texts.len() {
-        return false;
-    }
-    'words: for i in 0..words.len() {
-        if words[i] != texts[i].as_str() {
-            return false;
-        }
-    }
-    true
-}
-
-/// Whether the plain words are `join` and these files.
-fn names_joined(plain: &[&str], states: &States) -> bool
-    ensures { IsTrue result → map (λ s. s.now) plain.now ≡ codes "join" ∷ states.now.paths }
-{
-    plain.len() > 1 && plain[0] == "join" && are_texts(&plain[1..], states.paths())
-}
-
-/// Whether the plain words are `finish`, this path and these files.
-fn names_finished(plain: &[&str], path: &str, states: &States) -> bool
-    ensures { IsTrue result → map (λ s. s.now) plain.now ≡ codes "finish" ∷ path.now ∷ states.now.paths }
-{
-    plain.len() > 2
-        && plain[0] == "finish"
-        && plain[1] == path
-        && are_texts(&plain[2..], states.paths())
-}
-
-/// Whether the words ask for this plan, in this form and by so many workers.
-fn has_finish(words: &[String], asked: &Asked, format: Format, workers: usize) -> bool
-    ensures { IsTrue result → HasAsked (map string_bytes words.now) asked.now
-        × HasFormat (map string_bytes words.now) format × HasWorkers (map string_bytes words.now) workers }
-{
-    has_asked(words, asked) && has_format(words, format) && has_workers(words, workers)
-}
-
 /// Whether the words, of which the plain ones are given, ask for this command.
 fn asks_with(words: &[String], plain: &[&str], command: &Command) -> bool
     requires { map (λ s. s.now) plain.now ≡ plain_words (map string_bytes words.now) }
@@ -710,16 +632,6 @@ fn asks_with(words: &[String], plain: &[&str], command: &Command) -> bool
         Command::Orphans(place, older_than_ms, format, path) => {
             are_words(plain, &["orphans", path.as_str()])
                 && has_age_told(words, place, *older_than_ms, *format)
-        }
-        Command::Take(source, asked, share, workers, path) => {
-            is_about(words, plain, "take", source, path.as_str())
-                && has_take(words, asked, *share, *workers)
-        }
-        Command::Join(states) => names_joined(plain, states),
-        Command::Finish(source, asked, states, format, workers, path) => {
-            names_finished(plain, path.as_str(), states)
-                && has_source(words, source)
-                && has_finish(words, asked, *format, *workers)
         }
         Command::Drill(drill) => has_drill(words, plain, *drill),
         Command::Text(_) => any_asks_help(words),

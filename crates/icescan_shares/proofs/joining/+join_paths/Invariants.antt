@@ -1,5 +1,0 @@
-use Rattle.std.proofs.Common.{length}
-use Rattle.icescan_shares.proofs.joining.+join_paths.Given as goal
-
-abbrev pub decreases-join_paths : goal.decreases-join_paths
-decreases-join_paths g l = length l.paths

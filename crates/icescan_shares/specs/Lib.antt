@@ -1,4 +1,0 @@
-pub mod Faults
-pub mod Given
-pub mod Names
-pub mod Shares
