@@ -10,6 +10,7 @@ mod keyed;
 mod laws;
 mod merging;
 mod numbers;
+mod placing;
 mod record;
 mod search_key;
 mod shelf;

@@ -1,9 +1,11 @@
-//! Tests of ice_state and ice_state_entries, of what no clause says: that calls succeed where memory is ample, the plan
-//! of manifests that another program wrote, and what a refused growth leaves.
+//! Tests of ice_state, ice_state_entries and ice_state_bytes, of what no clause says: that calls succeed where memory
+//! is ample, the plan of manifests that another program wrote, and what a refused growth leaves.
 #![tactic(auto)]
 
 #[cfg(test)]
 mod answers;
+#[cfg(test)]
+mod bytes;
 mod calls;
 #[cfg(test)]
 mod cases;

@@ -18,8 +18,11 @@ use std::alloc::{AllocError, Global};
 /// An index of fewer files than one in so many of another's is not merged into that one: its files wait there.
 const FEW: usize = 16;
 
-/// Delete files: those that are indexed, and behind them those that wait until they are as many. An index is merged
-/// when its files double, so that n files cost n log n however few come at a time.
+/// Up to so many delete files wait until reading ends: one index of all is sooner made than one that grows.
+const MOST_WAITING: usize = 1 << 20;
+
+/// Delete files: those that are indexed, and behind them those that wait. Where many wait, and as many as are indexed,
+/// they are put into the index: its files double then, so that n files cost n log n however few come at a time.
 #[derive(Debug, Drop)]
 pub struct KeptDeletes {
     pub indexed: IndexedDeletes,
@@ -128,12 +131,12 @@ impl KeptDeletes {
         index.joined(alloc, &self.indexed)
     }
 
-    /// The same, of which none waits where as many waited as are indexed.
+    /// The same, of which none waits where many waited, and as many as are indexed.
     fn grown(self, alloc: Global, entries: &Segments) -> Result<KeptDeletes, AllocError>
         requires { AreDeletes entries.now self }
         ensures { (xs : List Entry) → AreDeletesOf entries.now xs self → IfOk result (AreDeletesOf entries.now xs) }
     {
-        if self.waiting.len() < self.indexed.files.len() {
+        if self.waiting.len() < self.indexed.files.len().max(MOST_WAITING) {
             return Ok(self);
         }
         self.all_indexed(alloc, entries)

@@ -7,7 +7,7 @@ ghost use Rattle.ice_state.specs.Segments.{Keeps, Segmented};
 ghost use Rattle.ice_state.specs.Slots.{contents, given, HasNumbers, HaveNumbers};
 
 use crate::kept::ordered::Ordered;
-use crate::kept::segments::Segments;
+use crate::kept::segments::{SMALL, Segments};
 use crate::kept::taken::Taken;
 use contract_words::Items;
 use ice_state_entries::Room;
@@ -154,7 +154,8 @@ fn put_taken(
         Taken::Good(ordered) => {
             let theirs = others.segment(ordered.segment);
             let numbers = ordered.numbers.as_slice();
-            let segment = entries.begin(alloc, numbers.len())?;
+            // Nothing is read in between, so that rows are put to segments as large manifests are.
+            let segment = entries.begin(alloc, numbers.len().max(SMALL))?;
             entries.reserve(segment, theirs.room_with(numbers, Room::none()))?;
             let added = entries.add_kept(segment, theirs, numbers)?;
             Ok(Taken::Good(Ordered {

@@ -56,6 +56,24 @@ const FULL: usize = 49_152;
 /// what grows is made anew, and leaves holes in memory.
 const ROOM: usize = 65_536;
 
+/// A manifest of fewer entries is small. Between the entries of two that are read much else comes to the cache, so that
+/// only a smaller index stays there.
+pub(crate) const SMALL: usize = 4096;
+
+/// A segment of small manifests has one part in so many of the entries and of the room of others.
+const PARTS: usize = 4;
+
+/// Whether a segment of so many entries is full, where a manifest of about so many is to be put to it.
+fn is_full(entries: usize, expected: usize) -> bool {
+    let most = if expected < SMALL { FULL / PARTS } else { FULL };
+    entries >= most
+}
+
+/// For how many entries a further segment has room that begins with a manifest of about so many.
+fn room_for(expected: usize) -> usize {
+    if expected < SMALL { ROOM / PARTS } else { ROOM }
+}
+
 /// A segment that keeps nothing yet, with room for so many entries.
 fn new_segment(alloc: Global, room: usize) -> Result<Entries, AllocError>
     ensures { IfOk result (λ segment. segment ≡ nothing_kept) }
@@ -108,11 +126,15 @@ impl Segments {
         ensures err { OnErr result (self.new ≡ self.old) }
     {
         let count = self.list.len();
-        if count > 0 && self.list[count - 1].len() < FULL {
+        if count > 0 && !is_full(self.list[count - 1].len(), expected) {
             return number_of(count - 1);
         }
         let segment = number_of(count)?;
-        let room = if count > 0 { ROOM } else { expected.min(ROOM) };
+        let room = if count > 0 {
+            room_for(expected)
+        } else {
+            expected.min(ROOM)
+        };
         self.list.push(new_segment(alloc, room)?)?;
         Ok(segment)
     }

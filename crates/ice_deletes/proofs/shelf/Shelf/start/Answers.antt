@@ -1,4 +1,4 @@
-use Rattle.std.proofs.Common.{rules, take}
+use Rattle.std.proofs.Common.{rules}
 use Rattle.std.specs.List.{slice_range}
 use Rattle.std.specs.List.Sorted.{IsPartitionedBy}
 use Rattle.std.proofs.lemmas.List.Sorted.{IsPartitionPoint-from_clause}
