@@ -157,17 +157,19 @@ AS_JSON = {
 def told(content, name, number, rows, size, **more):
     return {"content": content, "file-path": "mem://t/" + name, "file-format": name.split(".")[1], "spec-id": number,
             "partition": AS_JSON["a.parquet" if name == "p.parquet" else name], "file-size-in-bytes": size,
-            "record-count": rows, **{key.replace("_", "-"): value for key, value in more.items()}}
+            "record-count": rows, "sequence-number": 1, **{key.replace("_", "-"): value for key, value in more.items()}}
 
 
 def plan():
-    """The position deletes are of the same commit and about one file; the equality deletes apply to earlier files."""
-    deletes = [told("equality-deletes", "e.parquet", 0, 6, 60, equality_ids=[2, 8]),
-               told("position-deletes", "p.parquet", 0, 5, 50, referenced_data_file="mem://t/a.parquet")]
+    """The position deletes are of the same commit and about one file; the equality deletes apply to earlier files, of
+    which there are none, so no task names them."""
+    deletes = [told("position-deletes", "p.parquet", 0, 5, 50, referenced_data_file="mem://t/a.parquet")]
     files = [told("data", *file) for file in (
         ("a.parquet", 0, 10, 100), ("b.orc", 0, 20, 200), ("c.avro", 0, 30, 300), ("d.parquet", 1, 40, 400))]
     tasks = [{"data-file": file} for file in files]
-    tasks[0]["delete-file-references"] = [1]
+    tasks[0]["delete-file-references"] = [0]
+    for task in tasks:
+        task["residual-filter"] = True
     answer = {"status": "completed", "delete-files": deletes, "file-scan-tasks": tasks}
     return [json.dumps(answer, separators=(",", ":"))]
 

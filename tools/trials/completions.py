@@ -39,6 +39,9 @@ CASES = [
     (f"icescan plan {PLACE} --ref wa", f"icescan plan {PLACE} --ref wap"),
     (f"icescan plan {PLACE} --ref eo", f"icescan plan {PLACE} --ref eoy"),
     (f"icescan list-plan {PLACE} {PREFIX}/metadata/snap-7559", f"icescan list-plan {PLACE} {PREFIX}/metadata/{LIST}"),
+    (f"icescan join {TOP}/READ", f"icescan join {TOP}/README.md"),
+    (f"icescan finish {PLACE} {PREFIX}/metadata/{NEWEST} {TOP}/READ",
+     f"icescan finish {PLACE} {PREFIX}/metadata/{NEWEST} {TOP}/README.md"),
 ]
 
 

@@ -7,10 +7,10 @@ filters, by 1 and by 4 workers; of each manifest list `list-plan`. All are asked
 files on standard input.
 
 What the JSON says, read by Python's own reader, is written as the text, and has to be that text; each delete file has to
-stand once, and none where no data file stands. Each task has to have one and the same filter, `true` where none is
-asked. Else it is tried on random rows beside the filter's text, which is read here anew: a row has to meet both or
-neither. A refusal has to be the same refusal, with nothing written before it. Prints what is not so, and a last line
-that counts; the status is 1 where anything is not so.
+stand once, and a task has to name it. Each task has to have one and the same filter, `true` where none is asked. Else it
+is tried on random rows beside the filter's text, which is read here anew: a row has to meet both or neither. A refusal
+has to be the same refusal, with nothing written before it. Prints what is not so, and a last line that counts; the
+status is 1 where anything is not so.
 """
 import datetime
 import json
@@ -59,9 +59,9 @@ def as_lines(plan):
     deletes, tasks = plan["delete-files"], plan["file-scan-tasks"]
     paths = [delete["file-path"] for delete in deletes]
     assert len(set(paths)) == len(paths), "a delete file stands twice"
-    assert tasks or not deletes, "delete files without a task"
     named = [place for task in tasks for place in task.get("delete-file-references", [])]
     assert all(0 <= place < len(deletes) for place in named), "a reference to no place"
+    assert len(set(named)) == len(deletes), "a delete file that no task names"
     for task in tasks:
         yield from lines_of(task, deletes)
     yield b"files %d deletes %d" % (len(tasks), len(named))

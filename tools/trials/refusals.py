@@ -9,9 +9,10 @@ play: runs PROGRAM once for each refusal with a pseudo-terminal as standard erro
 status 1 where a line is not the one that is wanted, no hint stands after it, or a control character is in it. Then without words
 and with a terminal as standard input, where it has to show its help.
 
-Not here: K11 and N11, which take a million files and 65,537 rows; the drill's two, Z1 and want of memory, which no files lead to.
+Not here: K11 and N11, which take a million files and 65,537 rows; the drill's two and want of memory, which no files lead to.
 """
 import glob
+import hashlib
 import json
 import os
 import pty
@@ -28,13 +29,16 @@ UUID = "f79c3e09-677c-4bbd-a479-3f349cb785e7"
 
 def number(n):
     """A number as Avro writes it."""
-    n = n * 2 if n >= 0 else -n * 2 - 1
+    return groups(n * 2 if n >= 0 else -n * 2 - 1)
+
+
+def groups(n):
+    """A number that is not negative, as a state has it: groups of seven bits, the lowest first."""
     out = bytearray()
     while n > 127:
         out.append(n & 127 | 128)
         n >>= 7
-    out.append(n)
-    return bytes(out)
+    return bytes([*out, n])
 
 
 def text(t):
@@ -307,9 +311,38 @@ def commits(cases):
     cases.commit("W1 Write", "again", change(new))
 
 
+def counted(data):
+    return len(data).to_bytes(8, "big") + data
+
+
+def state(name, rows=1, *sections):
+    """A state, whose sections have a row and a body."""
+    parts = b"".join(groups(i) + groups(len(body)) + body for i, body in sections)
+    front = b"icescan state 1\n" + name + groups(rows) + groups(len(sections)) + parts
+    return front + hashlib.sha256(front).digest()
+
+
+def states(cases):
+    """States of the plan of `table.json` without a filter, whose list is made for commits."""
+    name = hashlib.sha256(counted(cases.files["table.json"]) + counted(cases.files["list"]) + b"\0\0").digest()
+    cases.files["no.state"] = b"a state\n"
+    cases.files["newer.state"] = b"icescan state 2\n" + state(name)[16:]
+    cases.files["cut.state"] = state(name)[:-1]
+    cases.files["other.state"] = state(bytes(32))
+    cases.files["false.state"] = state(name, 1, (0, b"\x05"))
+    cases.files["none.state"] = state(name)
+    cases.add("Y1 NotAState FOLDER/no.state", ["join", "FOLDER/no.state"])
+    cases.add("Y2 OtherVersion FOLDER/newer.state", ["join", "FOLDER/none.state", "FOLDER/newer.state"])
+    cases.add("Y3 Damaged FOLDER/cut.state", ["join", "FOLDER/cut.state", "FOLDER/none.state"])
+    cases.add("Y4 OtherScan FOLDER/other.state", ["join", "FOLDER/none.state", "FOLDER/other.state"])
+    cases.add("Y4 OtherScan FOLDER/other.state", ["finish", "mem://t/table.json", "FOLDER/other.state"])
+    cases.add("Y5 NotOfScan FOLDER/false.state", ["finish", "mem://t/table.json", "FOLDER/none.state", "FOLDER/false.state"])
+    cases.add("Z1 Missing mem://t/base.m", ["finish", "mem://t/table.json", "FOLDER/none.state"])
+
+
 def all_cases():
     cases = Cases()
-    for part in (filters, metadata, lists, manifests, containers, schemas, files, commits, habits):
+    for part in (filters, metadata, lists, manifests, containers, schemas, files, commits, states, habits):
         part(cases)
     return cases
 
@@ -327,7 +360,7 @@ def make(folder):
 def whole_words(words, folder):
     """The words with the folder and the prefix, where they have no bundle."""
     words = [w.replace("FOLDER", folder) for w in words]
-    if "--bundle" in words or words[0] == "locate":
+    if "--bundle" in words or words[0] in ("join", "locate"):
         return words
     prefix = [] if "--prefix" in words else ["--prefix", "mem://t"]
     return [words[0], "--dir", folder, *prefix, *words[1:]]
@@ -430,8 +463,7 @@ def written():
 
 
 def words():
-    """Z1 is in no table: no files lead to it."""
-    doc, own = documented(), [row for row in written() if row[0] != "Z1 Missing"]
+    doc, own = documented(), written()
     wrong = [("only in docs/REFUSALS.md", row) for row in doc if row not in own]
     wrong += [("only in icescan_hints", row) for row in own if row not in doc]
     for where, row in wrong:

@@ -98,6 +98,7 @@ module _ (world : Option World) (f : List ℕ → Type 0) where
   stops_by w (run.Filter x) absent device write = tt
   stops_by w (run.Drill x) absent device write = tt
   stops_by w (run.Locate x) absent device write = tt
+  stops_by w (run.State path flaw) absent device write = tt
   stops_by w (run.Lineage x) absent device write = tt
   stops_by w (run.Change x) absent device write = tt
   stops_by w (run.Prepare x) absent device write = tt

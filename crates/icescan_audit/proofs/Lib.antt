@@ -9,3 +9,4 @@ pub mod Ranges
 mod Sends
 pub mod Honest
 pub mod JsonWritten
+pub mod NextManifest

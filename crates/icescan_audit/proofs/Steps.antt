@@ -187,6 +187,7 @@ metadata_ends read r w (run.Scan f) is h = absurd is
 metadata_ends read r w (run.Finish f) is h = absurd is
 metadata_ends read r w (run.Drill f) is h = absurd is
 metadata_ends read r w (run.Locate f) is h = absurd is
+metadata_ends read r w (run.State path flaw) is h = absurd is
 metadata_ends read r w (run.Lineage f) is h = absurd is
 metadata_ends read r w (run.Change f) is h = absurd is
 metadata_ends read r w (run.Prepare f) is h = absurd is

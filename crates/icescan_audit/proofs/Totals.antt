@@ -11,7 +11,6 @@ use Rattle.icescan_audit_findings.specs.Bases.{among}
 use Rattle.icescan_audit_findings.specs.Repeats.{live_files}
 use Rattle.icescan_audit_findings.specs.Totals.{IsFalse, false_totals, total_of}
 use Rattle.icescan_audit_findings.specs.declared.basis.Basis.{Basis}
-use Rattle.icescan_audit_findings.specs.declared.repeats.LiveFile.{LiveFile}
 use Rattle.icescan_audit_findings.specs.declared.totals.FalseTotal.{FalseTotal}
 use Rattle.icescan_audit_findings.specs.declared.totals.SaidTotal.{SaidTotal}
 use Rattle.icescan_audit_findings.specs.declared.totals.Total.{Total}

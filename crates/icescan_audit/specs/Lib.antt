@@ -1,6 +1,7 @@
 pub mod Summaries
 pub mod Subjects
 pub mod Audits
+pub mod Handed
 pub mod Texts
 pub mod Premises
 pub mod Strays

@@ -4,6 +4,7 @@
 
 mod audit;
 mod by_workers;
+mod handed;
 mod json_lines;
 mod laws;
 mod lines;
@@ -14,6 +15,7 @@ mod subject;
 mod summary;
 
 pub use audit::{Audit, Reading, audit_row};
+pub use handed::HandedAudit;
 pub use icescan_audit_findings::{
     Basis, FalseTotal, Finding, Flaw, LiveFile, SaidTotal, Total, TypedColumn, TypedColumns,
 };

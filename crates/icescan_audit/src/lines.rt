@@ -2,9 +2,8 @@
 
 ghost use Rattle.std.specs.Prelude.{◌≡◌, ◌++◌, [], OnOk, IfOk};
 ghost use Rattle.std.specs.List.{flat_map};
-ghost use Rattle.icescan_audit.specs.Texts.{audit_text, count_name, file_text, finding_end, finding_text, flaw_end};
-ghost use Rattle.icescan_audit.specs.Texts.{column_flaw_name, entry_flaw_name, field_flaw_name, flaw_name};
-ghost use Rattle.icescan_audit.specs.Texts.{number_of_findings, row_flaw_name, text_end, total_text, totals_text};
+ghost use Rattle.icescan_audit.specs.Texts.{audit_text, file_text, finding_end, finding_text, flaw_end, flaw_name};
+ghost use Rattle.icescan_audit.specs.Texts.{number_of_findings, text_end, total_text, totals_text};
 ghost use Rattle.icescan_print.specs.Written.{Sent, Wrote};
 
 use crate::audit::Audit;
@@ -13,77 +12,22 @@ use contract_words::Items;
 use icescan_audit_findings::{
     ColumnFlaw, Count, EntryFlaw, FalseTotal, FieldFlaw, Finding, Flaw, RowFlaw,
 };
-use icescan_print::{Page, Sink, SinkFault, put_named_number};
-use itoa::Integer;
+use icescan_forms::push_number;
+use icescan_print::{Page, Sink, SinkFault};
 use shared_value::Shared;
 use std::alloc::{AllocError, Global};
 
-fn push_number<I: Integer>(text: &mut Vec<u8>, name: &[u8], n: I) -> Result<(), AllocError>
-    ensures { OnOk result (text.new.items ≡ text.old.items ++ (name.now ++ I.text n)) }
-{
-    put_named_number(text, name, n).map_err(|_| AllocError)
-}
-
-fn count_name(count: Count) -> &'static [u8]
-    ensures { result.now ≡ count_name count }
-{
-    match count {
-        Count::AddedFiles => b"added-files",
-        Count::ExistingFiles => b"existing-files",
-        Count::DeletedFiles => b"deleted-files",
-        Count::AddedRows => b"added-rows",
-        Count::ExistingRows => b"existing-rows",
-        Count::DeletedRows => b"deleted-rows",
-    }
-}
-
-fn row_flaw_name(flaw: RowFlaw) -> &'static [u8]
-    ensures { result.now ≡ row_flaw_name flaw }
-{
-    match flaw {
-        RowFlaw::OtherSpec => b"other-spec",
-        RowFlaw::OtherContent => b"other-content",
-        RowFlaw::OtherLength => b"other-length",
-        RowFlaw::OtherSummaries => b"other-summaries",
-        RowFlaw::AboveSnapshot => b"above-snapshot",
-    }
-}
-
-fn entry_flaw_name(flaw: EntryFlaw) -> &'static [u8]
-    ensures { result.now ≡ entry_flaw_name flaw }
-{
-    match flaw {
-        EntryFlaw::AboveManifest => b"above-manifest",
-        EntryFlaw::NoEqualityIds => b"no-equality-ids",
-        EntryFlaw::NegativeSize => b"negative-size",
-        EntryFlaw::UnknownFormat => b"unknown-format",
-    }
-}
-
-fn column_flaw_name(flaw: ColumnFlaw) -> &'static [u8]
-    ensures { result.now ≡ column_flaw_name flaw }
-{
-    match flaw {
-        ColumnFlaw::NegativeCounts => b"negative-counts",
-        ColumnFlaw::BoundsOfNulls => b"bounds-of-nulls",
-    }
-}
-
-fn field_flaw_name(flaw: FieldFlaw) -> &'static [u8]
-    ensures { result.now ≡ field_flaw_name flaw }
-{
-    match flaw {
-        FieldFlaw::Unbounded => b"unbounded",
-        FieldFlaw::OtherNulls => b"other-nulls",
-        FieldFlaw::OutsideBounds => b"outside-bounds",
-    }
-}
-
+/// What is wrong, in a word.
 pub fn flaw_name(flaw: &Flaw) -> &'static [u8]
     ensures { result.now ≡ flaw_name flaw.now }
 {
     match flaw {
-        Flaw::Miscounted(count) => count_name(*count),
+        Flaw::Miscounted(Count::AddedFiles) => b"added-files",
+        Flaw::Miscounted(Count::ExistingFiles) => b"existing-files",
+        Flaw::Miscounted(Count::DeletedFiles) => b"deleted-files",
+        Flaw::Miscounted(Count::AddedRows) => b"added-rows",
+        Flaw::Miscounted(Count::ExistingRows) => b"existing-rows",
+        Flaw::Miscounted(Count::DeletedRows) => b"deleted-rows",
         Flaw::Uncovered(_) => b"uncovered",
         Flaw::BelowLeast => b"below-least",
         Flaw::AboveLast => b"above-last",
@@ -94,10 +38,20 @@ pub fn flaw_name(flaw: &Flaw) -> &'static [u8]
         Flaw::NamedNotLive => b"named-not-live",
         Flaw::DanglingPositions => b"dangling-position-deletes",
         Flaw::DanglingEqualities => b"dangling-equality-deletes",
-        Flaw::OfRow(flaw) => row_flaw_name(*flaw),
-        Flaw::OfEntry(flaw) => entry_flaw_name(*flaw),
-        Flaw::OfColumn(flaw, _) => column_flaw_name(*flaw),
-        Flaw::OfField(flaw, _) => field_flaw_name(*flaw),
+        Flaw::OfRow(RowFlaw::OtherSpec) => b"other-spec",
+        Flaw::OfRow(RowFlaw::OtherContent) => b"other-content",
+        Flaw::OfRow(RowFlaw::OtherLength) => b"other-length",
+        Flaw::OfRow(RowFlaw::OtherSummaries) => b"other-summaries",
+        Flaw::OfRow(RowFlaw::AboveSnapshot) => b"above-snapshot",
+        Flaw::OfEntry(EntryFlaw::AboveManifest) => b"above-manifest",
+        Flaw::OfEntry(EntryFlaw::NoEqualityIds) => b"no-equality-ids",
+        Flaw::OfEntry(EntryFlaw::NegativeSize) => b"negative-size",
+        Flaw::OfEntry(EntryFlaw::UnknownFormat) => b"unknown-format",
+        Flaw::OfColumn(ColumnFlaw::NegativeCounts, _) => b"negative-counts",
+        Flaw::OfColumn(ColumnFlaw::BoundsOfNulls, _) => b"bounds-of-nulls",
+        Flaw::OfField(FieldFlaw::Unbounded, _) => b"unbounded",
+        Flaw::OfField(FieldFlaw::OtherNulls, _) => b"other-nulls",
+        Flaw::OfField(FieldFlaw::OutsideBounds, _) => b"outside-bounds",
     }
 }
 

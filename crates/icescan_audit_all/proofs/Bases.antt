@@ -4,9 +4,8 @@ use Rattle.std.proofs.Common.{◌∙◌, ◌++◌, cond, inl, inr}
 use Rattle.std.proofs.Common.{◌+◌, ◌<◌, get_or, length, map, take}
 use Rattle.std.proofs.lemmas.List.{map-append, map_more}
 use Rattle.std.proofs.lemmas.List.Elements.{All-contains, All-get_or, All-push}
-use Rattle.std.proofs.lemmas.Option.{slice_get-get_or, slice_get_within}
 use Rattle.std.specs.Prelude.{Result, Ok, Err, nat_lt, find, option_and_then}
-use Rattle.std.specs.List.{All, slice_get}
+use Rattle.std.specs.List.{All}
 use Rattle.std.specs.Option.{option_or}
 use Rattle.std.specs.Ordering.{int_eq}
 use Rattle.std.proofs.lemmas.Bool.Decides.{Decides-int_eq}

@@ -1,15 +1,14 @@
 -- What it says of the audits of all snapshots that no fault was told.
 use Rattle.std.proofs.Common.{◌≡◌, ◌∙◌, ℕ, ℤ, ◌+◌, Bool, true, false, not, ◌&&◌, List, [], ◌∷◌, ◌++◌, map, cond, refl, sym}
-use Rattle.std.proofs.Common.{ap, subst, arith, length, ◌<◌, Option, Some, None}
+use Rattle.std.proofs.Common.{ap, subst, arith, Option, Some, None}
 use Rattle.std.proofs.lemmas.List.Elements.{All-contains, All-from_recursion, All-map}
-use Rattle.std.specs.Prelude.{Result, Ok, slice_index_or}
+use Rattle.std.specs.Prelude.{Ok}
 use Rattle.std.specs.List.{All, AllByRecursion, Contains, flat_map}
 use Rattle.std.specs.Str.{bytes_eq}
 use Rattle.contract_words.specs.Sorting.{put, sorted}
 use Rattle.ice_desk.specs.Given.{AreOf, Giving}
 use Rattle.ice_manifest_reading.specs.declared.row.Row.{Row}
 use Rattle.ice_meta.specs.Targets.{Described, metadata_of}
-use Rattle.ice_meta.specs.declared.fault.MetaFault.{MetaFault}
 use Rattle.ice_meta.specs.declared.metadata.Target.{Target}
 use Rattle.ice_meta.specs.declared.metadata.Target.TheVariants as target
 use Rattle.ice_state.specs.Contents.{World}
@@ -25,11 +24,10 @@ use Rattle.icescan_audit_findings.specs.declared.basis.Basis.{Basis}
 use Rattle.icescan_audit_findings.specs.declared.finding.Finding.{Finding}
 use Rattle.icescan_forms.specs.declared.format.Format.{Format}
 use Rattle.icescan_text.specs.Reads.{AreRowsGiven, file_in, rows_at}
-use Rattle.icescan_text.specs.declared.fault.RunFault.{RunFault}
 use Rattle.icescan_audit_all.specs.Honest.{HasHonestSnapshotsAt}
 use Rattle.icescan_audit_all.specs.Lines.{begins, finding_line, line_before, lines_of, number_of_faults, one_if}
 use Rattle.icescan_audit_all.specs.Lines.{told_lines, total_line}
-use Rattle.icescan_audit_all.specs.Snapshots.{AreAudits, ids_of}
+use Rattle.icescan_audit_all.specs.Snapshots.{ids_of}
 use Rattle.icescan_audit_all.specs.Texts.{WroteAuditsAt}
 use Rattle.icescan_audit_all.specs.declared.audits.SnapshotAudit.{SnapshotAudit}
 use Rattle.icescan_audit_all.specs.declared.lines.Line.{Line}

@@ -1,32 +1,18 @@
 //! Lines in the order of their bytes, so that those of several snapshots that are alike follow each other.
 
-ghost use Rattle.std.specs.Prelude.{◌≡◌, ◌+◌, IfOk, OnOk, None, option_map, true};
+ghost use Rattle.std.specs.Prelude.{◌≡◌, ◌+◌, OnOk, None, option_map, true};
 ghost use Rattle.contract_words.specs.Sorting.{sorted};
-ghost use Rattle.icescan_audit_all.specs.Lines.{begins, is_same, line_before, number_of_faults, number_told, told_lines};
+ghost use Rattle.icescan_audit_all.specs.Lines.{begins, is_same, line_before, number_of_faults, number_told};
 
-use crate::audits::SnapshotAudit;
-use crate::lines::{Line, all_lines};
-use icescan_forms::Format;
-use std::alloc::{AllocError, Global};
+use crate::lines::Line;
+use std::alloc::AllocError;
 
-fn sort_lines(lines: &mut Vec<Line>) -> Result<(), AllocError>
+/// Sorts lines by their bytes; those that are alike stay in the order of the snapshots.
+pub fn sort_lines(lines: &mut Vec<Line>) -> Result<(), AllocError>
     ensures { OnOk result (lines.new.items ≡ sorted line_before lines.old.items) }
 {
     lines.sort_by(|a, b| a.front.as_slice().cmp(b.front.as_slice()))?;
     Ok(())
-}
-
-/// The lines of all these snapshots in the order of their bytes, and those that are alike in the order of the snapshots.
-pub fn told_lines(
-    alloc: Global,
-    form: Format,
-    audits: &[SnapshotAudit],
-) -> Result<Vec<Line>, AllocError>
-    ensures { IfOk result (λ lines. lines.items ≡ told_lines form audits.now) }
-{
-    let mut lines = all_lines(alloc, form, audits)?;
-    sort_lines(&mut lines)?;
-    Ok(lines)
 }
 
 /// Whether two lines say the same, of whatever snapshot.

@@ -11,9 +11,10 @@ ghost use Rattle.icescan_audit_all.specs.Lines.{number_of_faults, told_lines};
 use crate::audits::{SnapshotAudit, audit_each};
 use crate::filling::fill;
 use crate::kept::Kept;
+use crate::lines::all_lines;
 use crate::listed::{Listed, list_snapshots};
 use crate::manifests::number_of_manifests;
-use crate::orders::told_lines;
+use crate::orders::sort_lines;
 use crate::wanted::{classes_of, wants_of};
 use crate::writing::text_of;
 use ice_desk::Files;
@@ -81,7 +82,8 @@ pub fn audits_text(
     ensures faults { IfOk result (λ told. told.1 ≡ number_of_faults None (told_lines form audits.now)) }
 {
     let manifests = number_of_manifests(alloc, audits)?;
-    let lines = told_lines(alloc, form, audits)?;
+    let mut lines = all_lines(alloc, form, audits)?;
+    sort_lines(&mut lines)?;
     text_of(alloc, form, audits.len(), manifests, &lines)
 }
 

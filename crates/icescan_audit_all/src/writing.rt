@@ -8,16 +8,8 @@ ghost use Rattle.icescan_forms.specs.Objects.{object_line};
 
 use crate::lines::Line;
 use crate::orders::{begins, numbers_told};
-use icescan_forms::{Format, ObjectLines, Value};
-use icescan_print::put_named_number;
-use itoa::Integer;
+use icescan_forms::{Format, ObjectLines, Value, push_number};
 use std::alloc::{AllocError, Global};
-
-fn push_number<I: Integer>(text: &mut Vec<u8>, name: &[u8], n: I) -> Result<(), AllocError>
-    ensures { OnOk result (text.new.items ≡ text.old.items ++ (name.now ++ I.text n)) }
-{
-    put_named_number(text, name, n).map_err(|_| AllocError)
-}
 
 /// What stands before the snapshots of a finding, and behind them.
 fn opening(form: Format) -> &'static [u8]

@@ -1,5 +1,5 @@
 -- The two plans of which the changes are told, what is told of them, and why either may end the run.
-use Rattle.std.proofs.Common.{◌≡◌, ◌≢◌, ◌⊎◌, inl, inr, ℕ, ◌<◌, ◌≤◌, List, [], ◌∷◌, ◌++◌, append_assoc, refl, sym, subst}
+use Rattle.std.proofs.Common.{◌≡◌, ◌≢◌, ◌⊎◌, inr, ℕ, ◌<◌, ◌≤◌, List, [], ◌∷◌, ◌++◌, append_assoc, refl, sym, subst}
 use Rattle.std.proofs.Common.{◌∙◌}
 use Rattle.std.specs.Prelude.{Result, Ok, Err}
 use Rattle.contract_words.specs.Outcome.{◌>>=◌}
@@ -14,27 +14,20 @@ use Rattle.icescan_changes.specs.Answers.{reads_behind_lists}
 use Rattle.icescan_changes.specs.Lineage.{IsOfLineage, lineage_of}
 use Rattle.icescan_forms.specs.declared.format.Format.{Format}
 use Rattle.icescan_requests.specs.ListPlans.{wanted_of}
-use Rattle.icescan_requests.specs.Plans.{manifests, over_wanted_rows, rows_plan, scan_in, selected_rows}
+use Rattle.icescan_requests.specs.Plans.{list_of, manifests, rows_plan, scan_in, selected_rows}
 use Rattle.icescan_requests.specs.Selections.{selected}
 use Rattle.icescan_requests.specs.declared.selected_rows.SelectedRows.{SelectedRows}
-use Rattle.icescan_requests.proofs.Plans.{list_there}
-use Rattle.icescan_shared_manifests.specs.Both.{both_lists, both_rows, list_of}
+use Rattle.icescan_shared_manifests.proofs.Selecting.{behind_list, ends_first}
+use Rattle.icescan_shared_manifests.specs.Both.{both_lists, both_rows}
 use Rattle.icescan_shared_manifests.specs.declared.both_rows.BothRows.{BothRows}
-use Rattle.icescan_text.specs.Reads.{MayEnd, all_present, file_in, rows_at}
+use Rattle.icescan_text.specs.Reads.{MayEnd, all_present, file_in}
 use Rattle.icescan_text.specs.declared.fault.RunFault.{RunFault}
 use Rattle.icescan_text.specs.declared.fault.RunFault.TheVariants as run
 use Rattle.icescan_text.specs.declared.request.ChangesRequest.{ChangesRequest}
-use Rattle.icescan_text.specs.declared.request.Request.{Request}
 use Rattle.icescan_text.proofs.Steps.{fails_later, first_ends, has_each, more_reads, only_first, step, then_ends}
 use Rattle.icescan_text.proofs.Enough.{enough, not_enough}
 
 -- ---- what is read before
-
-ends_first : (world : World) (f : List ℕ → Type 0) (xs ys : List (List ℕ)) (p : List ℕ) → EndsAt world f xs p
-    → EndsAt world f (xs ++ ys) p
-ends_first world f [] ys p h = absurd h
-ends_first world f (x ∷ xs) ys p (inl h) = inl h
-ends_first world f (x ∷ xs) ys p (inr h) = inr (h.0, ends_first world f xs ys p h.1)
 
 module _ (world : World) (f : List ℕ → Type 0) (rest : List (List ℕ)) (p : List ℕ) (ends : EndsAt world f rest p) where
   behind_rows : (rows : List Row) → HasEach world rows → EndsAt world f (paths_of rows ++ rest) p
@@ -50,18 +43,6 @@ module _ (world : World) (f : List ℕ → Type 0) (rest : List (List ℕ)) (p :
       let there = step (all_present world scan.0.wanted) _ plan scan.2 in
       subst (λ found. EndsAt world f (wanted_of found ++ rest) p) (sym scan.1)
       (behind_rows scan.0.wanted (has_each world scan.0.wanted there.1))
-
-  -- where a list's rows were selected, the list was there
-  behind_list : (metadata : List ℕ) (request : Request) (found : SelectedRows)
-      → selected_rows world metadata request ≡ Ok found
-      → EndsAt world f (list_of (selected metadata request) ++ rest) p
-  unfolding selected_rows
-  behind_list metadata request found h =
-      let asked = step (selected metadata request) _ found h in
-      let rows = step (rows_at world asked.0.list) _ found asked.2 in
-      let bytes = list_there world asked.0.list rows.0 rows.1 in
-      subst (λ s. EndsAt world f (list_of s ++ rest) p) (sym asked.1)
-      (fails_later world f asked.0.list bytes.0 rest p bytes.1 ends)
 
 -- where the rows of both lists were selected, both lists were there
 behind_lists : (world : World) (f : List ℕ → Type 0) (rest : List (List ℕ)) (p : List ℕ) → EndsAt world f rest p
@@ -95,6 +76,7 @@ lineage_ends read w (run.Finish f) is h = absurd is
 lineage_ends read w (run.Filter f) is h = absurd is
 lineage_ends read w (run.Drill f) is h = absurd is
 lineage_ends read w (run.Locate f) is h = absurd is
+lineage_ends read w (run.State path flaw) is h = absurd is
 lineage_ends read w (run.Change f) is h = absurd is
 lineage_ends read w (run.Prepare f) is h = absurd is
 lineage_ends read w (run.Conflict path) is h = absurd is

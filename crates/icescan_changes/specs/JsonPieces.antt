@@ -1,5 +1,5 @@
 -- The pieces of the lines of JSON, as they are put. No public contract cites these words. (10 is the line feed.)
-use Rattle.std.specs.Prelude.{ℕ, ℤ, List, [], ◌∷◌, ◌++◌, codes}
+use Rattle.std.specs.Prelude.{ℕ, ℤ, List, ◌++◌, codes}
 use Rattle.json.specs.Print.{quoted}
 use Rattle.serde_json.specs.Written.{compact_text}
 use Rattle.ice_manifest_reading.specs.declared.entry.Entry.{Entry}

@@ -1,17 +1,17 @@
 //! What became of a plan, as lines of JSON.
 
 ghost use Rattle.std.specs.Prelude.{◌≡◌, ◌++◌, IfOk, OnOk};
-ghost use Rattle.std.specs.List.{count_by, flat_map};
+ghost use Rattle.std.specs.List.{flat_map};
 ghost use Rattle.serde_json.specs.Written.{compact_text};
-ghost use Rattle.icescan_changes.specs.JsonLines.{change_objects, changes_objects, data_object, delete_change};
+ghost use Rattle.icescan_changes.specs.JsonLines.{change_objects, data_object, delete_change};
 ghost use Rattle.icescan_changes.specs.JsonLines.{delete_object, ids_json, objects_of, totals_members, totals_object};
 ghost use Rattle.icescan_changes.specs.JsonPieces.{data_front, data_head, data_numbers, delete_front, delete_rest};
 ghost use Rattle.icescan_changes.specs.JsonPieces.{kind_front};
 ghost use Rattle.icescan_forms.specs.Objects.{object_line};
 
-use crate::changes::{Change, FileChange, Kind, line_changes};
+use crate::changes::{Change, FileChange, Kind};
 use crate::lines::{count_kind, push_ids};
-use ice_state::{Line, Lines, PlanFile, PlanFiles};
+use ice_state::{Line, PlanFile, PlanFiles};
 use icescan_forms::{ObjectLines, Value};
 use std::alloc::{AllocError, Global};
 
@@ -306,20 +306,13 @@ fn push_totals(lines: &mut ObjectLines, changes: &[Change<'_>]) -> Result<(), Al
     )
 }
 
-/// What became of a plan as lines of JSON, an object each: for each data file that only one of the plans has, or to
-/// which other delete files apply, in the order of their paths, for each delete file that is told of it, and then their
-/// numbers.
+/// Changes as lines of JSON, an object each, and then their numbers.
 #[tactic(auto, unfolding(crate::specs::JsonLines::objects_of))]
-pub fn changes_objects<'a>(
-    alloc: Global,
-    earlier: &Lines<'a>,
-    later: &Lines<'a>,
-) -> Result<Vec<u8>, AllocError>
-    ensures { IfOk result (λ text. text.items ≡ changes_objects earlier.now later.now) }
+pub(crate) fn objects_of(alloc: Global, changes: &[Change<'_>]) -> Result<Vec<u8>, AllocError>
+    ensures { IfOk result (λ text. text.items ≡ objects_of changes.now) }
 {
-    let changes = line_changes(alloc, earlier, later)?;
     let mut lines = ObjectLines::new(alloc)?;
-    push_changes(&mut lines, alloc, &changes)?;
-    push_totals(&mut lines, &changes)?;
+    push_changes(&mut lines, alloc, changes)?;
+    push_totals(&mut lines, changes)?;
     lines.into_text()
 }

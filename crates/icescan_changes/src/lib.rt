@@ -11,7 +11,5 @@ mod running;
 mod same;
 
 pub use changes::{Change, FileChange, file_changes, line_changes};
-pub use json_lines::changes_objects;
-pub use lines::changes_text;
-pub use running::{changes_file, changes_file_json};
+pub use running::{changes_file, changes_told};
 pub use same::is_same_file;

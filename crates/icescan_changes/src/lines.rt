@@ -1,45 +1,19 @@
 //! The text of what became of a plan.
 
-ghost use Rattle.std.specs.Prelude.{◌≡◌, ◌∷◌, [], ◌++◌, ◌≤◌, IfOk, OnOk, codes, length};
+ghost use Rattle.std.specs.Prelude.{◌≡◌, ◌∷◌, [], ◌++◌, IfOk, OnOk, codes};
 ghost use Rattle.std.specs.List.{count_by, flat_map};
 ghost use Rattle.std.specs.Fmt.{signed_decimal};
-ghost use Rattle.icescan_print.specs.Pieces.{named_path, named_signed};
 ghost use Rattle.icescan_print.specs.PlanTexts.{equality_text, file_text, ids_text, line_text, numbered_path};
 ghost use Rattle.icescan_print.specs.PlanTexts.{position_text, size_text};
-ghost use Rattle.icescan_changes.specs.Texts.{change_text, changes_text, equality_change, equality_line, is_kind};
+ghost use Rattle.icescan_changes.specs.Texts.{change_text, equality_change, equality_line, is_kind};
 ghost use Rattle.icescan_changes.specs.Texts.{position_change, position_line, text_of, totals_text};
 
-use crate::changes::{Change, FileChange, Kind, line_changes};
-use ice_state::{Line, Lines, PlanFile, PlanFiles};
-use icescan_print::{put_named_int, put_named_long, put_named_number, put_named_path};
-use itoa::Integer;
+use crate::changes::{Change, FileChange, Kind};
+use ice_state::{Line, PlanFile, PlanFiles};
+use icescan_forms::{push_int, push_long, push_number, push_path};
 use std::alloc::{AllocError, Global};
 
 // ---- pieces
-
-fn push_int(text: &mut Vec<u8>, name: &[u8], n: i32) -> Result<(), AllocError>
-    ensures { OnOk result (text.new.items ≡ text.old.items ++ named_signed name.now n) }
-{
-    put_named_int(text, name, n).map_err(|_| AllocError)
-}
-
-fn push_long(text: &mut Vec<u8>, name: &[u8], n: i64) -> Result<(), AllocError>
-    ensures { OnOk result (text.new.items ≡ text.old.items ++ named_signed name.now n) }
-{
-    put_named_long(text, name, n).map_err(|_| AllocError)
-}
-
-fn push_number<I: Integer>(text: &mut Vec<u8>, name: &[u8], n: I) -> Result<(), AllocError>
-    ensures { OnOk result (text.new.items ≡ text.old.items ++ (name.now ++ I.text n)) }
-{
-    put_named_number(text, name, n).map_err(|_| AllocError)
-}
-
-fn push_path(text: &mut Vec<u8>, name: &[u8], path: &[u8]) -> Result<(), AllocError>
-    ensures { OnOk result (text.new.items ≡ text.old.items ++ named_path name.now path.now) }
-{
-    put_named_path(text, name, path).map_err(|_| AllocError)
-}
 
 /// Puts a file's path and sequence number last.
 fn push_numbered_path(
@@ -269,19 +243,13 @@ fn push_lines(text: &mut Vec<u8>, changes: &[Change<'_>]) -> Result<(), AllocErr
     Ok(())
 }
 
-/// The text of what became of a plan: a line for each data file that only one of the plans has, or to which other
-/// delete files apply, in the order of their paths, and then their numbers.
+/// The text of changes, and then their numbers.
 #[tactic(auto, unfolding(crate::specs::Texts::text_of))]
-pub fn changes_text<'a>(
-    alloc: Global,
-    earlier: &Lines<'a>,
-    later: &Lines<'a>,
-) -> Result<Vec<u8>, AllocError>
-    ensures { IfOk result (λ text. text.items ≡ changes_text earlier.now later.now) }
+pub(crate) fn text_of(alloc: Global, changes: &[Change<'_>]) -> Result<Vec<u8>, AllocError>
+    ensures { IfOk result (λ text. text.items ≡ text_of changes.now) }
 {
-    let changes = line_changes(alloc, earlier, later)?;
     let mut text = Vec::new(alloc);
-    push_lines(&mut text, &changes)?;
-    push_totals(&mut text, &changes)?;
+    push_lines(&mut text, changes)?;
+    push_totals(&mut text, changes)?;
     Ok(text)
 }

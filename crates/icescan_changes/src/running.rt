@@ -6,34 +6,28 @@ ghost use Rattle.ice_state.specs.Contents.{World};
 ghost use Rattle.icescan_changes.specs.Answers.{AreChangesOfBoth, AreChangesOfGiven, WroteChangesOfGiven, both_reads};
 ghost use Rattle.icescan_changes.specs.Answers.{changes_at, changes_in, changes_between, changes_reads_at, changes_told};
 ghost use Rattle.icescan_changes.specs.Answers.{manifests_of_both};
-ghost use Rattle.icescan_forms.specs.declared.format.Format.TheVariants as format;
 ghost use Rattle.icescan_requests.specs.Plans.{OnRefusal};
 ghost use Rattle.icescan_requests.specs.Shows.{WroteFront, WroteText};
 ghost use Rattle.icescan_text.specs.Reads.{MayEnd};
 
-use crate::json_lines::changes_objects;
+use crate::changes::line_changes;
+use crate::json_lines::objects_of;
 use crate::lineage::check_lineage;
-use crate::lines::changes_text;
-use ice_desk::{Files, Gate};
+use crate::lines::text_of;
+use ice_desk::Files;
 use ice_state::Lines;
 use icescan_forms::Format;
 use icescan_print::{Sink, write_all};
-use icescan_requests::plan_rows_by_workers;
+use icescan_requests::{OpenGate, plan_rows_by_workers};
 use icescan_shared_manifests::{BothRows, select_both};
 use icescan_text::{ChangesRequest, RunFault, Workers, read_file};
 use std::alloc::{AllocError, Global};
 use std::thread::Threads;
 
-/// A gate at which no worker is held up.
-#[derive(Drop)]
-struct OpenGate;
-
-impl Gate for OpenGate {
-    fn before_take(&self, _worker: usize, _i: usize) {}
-}
-
-/// The changes from one plan to another, in a form.
-fn changes_told<'a>(
+/// What became of a plan, in a form: for each data file that only one of the plans has, or to which other delete files
+/// apply, in the order of their paths, a line of text, or objects of JSON for it and for each delete file that is told
+/// of it; and then their numbers.
+pub fn changes_told<'a>(
     alloc: Global,
     format: Format,
     earlier: &Lines<'a>,
@@ -41,9 +35,10 @@ fn changes_told<'a>(
 ) -> Result<Vec<u8>, AllocError>
     ensures { IfOk result (λ text. text.items ≡ changes_told format earlier.now later.now) }
 {
+    let changes = line_changes(alloc, earlier, later)?;
     match format {
-        Format::Text => changes_text(alloc, earlier, later),
-        Format::Json => changes_objects(alloc, earlier, later),
+        Format::Text => text_of(alloc, &changes),
+        Format::Json => objects_of(alloc, &changes),
     }
 }
 
@@ -127,8 +122,8 @@ fn changes_at<R: Threads + Sync, F: Files + Sync>(
     changes_in(rt, alloc, files, &metadata, request, format, workers)
 }
 
-/// Writes the changes from one plan to another that are asked for, of the table whose metadata is in the file at a
-/// path.
+/// Writes, in a form, the changes from one plan to another that are asked for, of the table whose metadata is in the
+/// file at a path.
 ///
 /// The refusal is `Workers` where there are to be none, or more than 64; it comes before all others, and nothing is
 /// read. Then it is `Absent` where there is no such file, `Device` where reading it failed, `Lineage` where each
@@ -141,6 +136,7 @@ pub fn changes_file<R: Threads + Sync, F: Files + Sync, W: Sink>(
     rt: &R,
     alloc: Global,
     files: &F,
+    format: Format,
     path: &str,
     request: &ChangesRequest,
     workers: usize,
@@ -150,58 +146,24 @@ pub fn changes_file<R: Threads + Sync, F: Files + Sync, W: Sink>(
 
     // Over files that tell their world.
     ensures written { (world : World) → F.world files.now ≡ Some world →
-        OnOk result (WroteText (changes_at format.Text world path.now request.now workers) (W.taken output.old)
+        OnOk result (WroteText (changes_at format world path.now request.now workers) (W.taken output.old)
         (W.taken output.new)) }
     ensures refused { (world : World) → F.world files.now ≡ Some world →
-        IfErr result (MayEnd (changes_at format.Text world path.now request.now workers)
+        IfErr result (MayEnd (changes_at format world path.now request.now workers)
         (EndsAt world (F.may_fail files.now) (changes_reads_at world path.now request.now)) (W.may_fail output.old)) }
     ensures front { (world : World) → F.world files.now ≡ Some world → IsErrOf result RunFault.Write →
-        WroteFront (changes_at format.Text world path.now request.now workers) (W.taken output.old)
+        WroteFront (changes_at format world path.now request.now workers) (W.taken output.old)
         (W.taken output.new) }
 
-    // Over all files: what is written is made of plans of bytes that reads gave.
-    ensures given { OnOk result ((metadata : List ℕ) × F.gives files.now path.now (Some metadata)
-        × WroteChangesOfGiven format.Text (F.gives files.now) metadata request.now (W.taken output.old)
-        (W.taken output.new)) }
+    // Over all files.
     ensures refusal { OnRefusal (F.world files.now) (F.may_fail files.now) (W.may_fail output.old) result
         (W.taken output.old) (W.taken output.new) }
-{
-    let text = changes_at(rt, alloc, files, path, request, Format::Text, workers)?;
-    write_all(output, &text)?;
-    Ok(())
-}
-
-/// Writes the same as lines of JSON, an object each. The refusals are those of `changes_file`.
-pub fn changes_file_json<R: Threads + Sync, F: Files + Sync, W: Sink>(
-    rt: &R,
-    alloc: Global,
-    files: &F,
-    path: &str,
-    request: &ChangesRequest,
-    workers: usize,
-    output: &mut W,
-) -> Result<(), RunFault>
-    ensures workers { (workers ≡ 0) ⊎ (64 < workers) → IsErrOf result RunFault.Workers }
-
-    // Over files that tell their world.
-    ensures written { (world : World) → F.world files.now ≡ Some world →
-        OnOk result (WroteText (changes_at format.Json world path.now request.now workers) (W.taken output.old)
-        (W.taken output.new)) }
-    ensures refused { (world : World) → F.world files.now ≡ Some world →
-        IfErr result (MayEnd (changes_at format.Json world path.now request.now workers)
-        (EndsAt world (F.may_fail files.now) (changes_reads_at world path.now request.now)) (W.may_fail output.old)) }
-    ensures front { (world : World) → F.world files.now ≡ Some world → IsErrOf result RunFault.Write →
-        WroteFront (changes_at format.Json world path.now request.now workers) (W.taken output.old)
-        (W.taken output.new) }
-
-    // Over all files: what is written is made of plans of bytes that reads gave.
+    // What is written is made of plans of bytes that reads gave.
     ensures given { OnOk result ((metadata : List ℕ) × F.gives files.now path.now (Some metadata)
-        × WroteChangesOfGiven format.Json (F.gives files.now) metadata request.now (W.taken output.old)
+        × WroteChangesOfGiven format (F.gives files.now) metadata request.now (W.taken output.old)
         (W.taken output.new)) }
-    ensures refusal { OnRefusal (F.world files.now) (F.may_fail files.now) (W.may_fail output.old) result
-        (W.taken output.old) (W.taken output.new) }
 {
-    let text = changes_at(rt, alloc, files, path, request, Format::Json, workers)?;
+    let text = changes_at(rt, alloc, files, path, request, format, workers)?;
     write_all(output, &text)?;
     Ok(())
 }

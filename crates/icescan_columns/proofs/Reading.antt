@@ -27,6 +27,7 @@ metadata_ends read w (run.Finish f) is h = absurd is
 metadata_ends read w (run.Filter f) is h = absurd is
 metadata_ends read w (run.Drill f) is h = absurd is
 metadata_ends read w (run.Locate f) is h = absurd is
+metadata_ends read w (run.State path flaw) is h = absurd is
 metadata_ends read w (run.Lineage f) is h = absurd is
 metadata_ends read w (run.Change f) is h = absurd is
 metadata_ends read w (run.Prepare f) is h = absurd is

@@ -7,35 +7,16 @@ ghost use Rattle.icescan_columns.specs.Texts.{answers_text, column_line, columns
 ghost use Rattle.icescan_columns.specs.Texts.{field_line, id_text, is_broken, kind_text, last_text, name_text};
 ghost use Rattle.icescan_columns.specs.Texts.{source_text};
 ghost use Rattle.icescan_columns.specs.Texts.{spec_text, transform_text, yes_or_no};
-ghost use Rattle.icescan_print.specs.Pieces.{named_path, named_signed};
 ghost use Rattle.icescan_print.specs.TableTexts.{schema_line, spec_line};
 
 use crate::names::push_column;
 use crate::told::{Compared, ToldColumn, told_columns};
 use ice_filter::Column as Names;
 use ice_meta::{PartitionField, Schema, Spec, Table};
-use icescan_print::{put_escaped, put_named_int, put_named_number, put_named_path};
-use itoa::Integer;
+use icescan_forms::{push_int, push_number, push_path};
+use icescan_print::put_escaped;
 use serde_json::Value;
 use std::alloc::{AllocError, Global};
-
-fn push_int(text: &mut Vec<u8>, name: &[u8], n: i32) -> Result<(), AllocError>
-    ensures { OnOk result (text.new.items ≡ text.old.items ++ named_signed name.now n) }
-{
-    put_named_int(text, name, n).map_err(|_| AllocError)
-}
-
-fn push_number<I: Integer>(text: &mut Vec<u8>, name: &[u8], n: I) -> Result<(), AllocError>
-    ensures { OnOk result (text.new.items ≡ text.old.items ++ (name.now ++ I.text n)) }
-{
-    put_named_number(text, name, n).map_err(|_| AllocError)
-}
-
-fn push_path(text: &mut Vec<u8>, name: &[u8], path: &[u8]) -> Result<(), AllocError>
-    ensures { OnOk result (text.new.items ≡ text.old.items ++ named_path name.now path.now) }
-{
-    put_named_path(text, name, path).map_err(|_| AllocError)
-}
 
 /// Whether a name can't end a line as it is.
 fn is_broken(name: &[u8]) -> bool

@@ -65,6 +65,7 @@ ends_as told read r w (run.Metadata f) keeps h = ap told h ∙ keeps _
 ends_as told read r w (run.Filter f) keeps h = ap told h ∙ keeps _
 ends_as told read r w (run.Drill f) keeps h = ap told h ∙ keeps _
 ends_as told read r w (run.Locate f) keeps h = ap told h ∙ keeps _
+ends_as told read r w (run.State path flaw) keeps h = ap told h ∙ keeps _
 ends_as told read r w (run.Lineage f) keeps h = ap told h ∙ keeps _
 ends_as told read r w (run.Change f) keeps h = ap told h ∙ keeps _
 ends_as told read r w (run.Prepare f) keeps h = ap told h ∙ keeps _

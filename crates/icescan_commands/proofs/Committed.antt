@@ -73,6 +73,8 @@ module _ (request : CommitRequest) (text : List ℕ) where
         cause_of known (failing_bundle w) (run.Drill f) (refused_commit (run.Drill f) h) refl
     commit_refuses w (run.Locate f) h =
         cause_of known (failing_bundle w) (run.Locate f) (refused_commit (run.Locate f) h) refl
+    commit_refuses w (run.State path flaw) h =
+        cause_of known (failing_bundle w) (run.State path flaw) (refused_commit (run.State path flaw) h) refl
     commit_refuses w (run.Lineage f) h =
         cause_of known (failing_bundle w) (run.Lineage f) (refused_commit (run.Lineage f) h) refl
     commit_refuses w (run.Change f) h =

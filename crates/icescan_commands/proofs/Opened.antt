@@ -34,6 +34,7 @@ may_refuse read at failing (run.Metadata f) reads h = h
 may_refuse read at failing (run.Filter f) reads h = h
 may_refuse read at failing (run.Drill f) reads h = h
 may_refuse read at failing (run.Locate f) reads h = h
+may_refuse read at failing (run.State path flaw) reads h = h
 may_refuse read at failing (run.Lineage f) reads h = h
 may_refuse read at failing (run.Change f) reads h = h
 may_refuse read at failing (run.Prepare f) reads h = h

@@ -1,5 +1,5 @@
 -- What was written of bytes that reads below a folder gave.
-use Rattle.std.proofs.Common.{◌≡◌, ℕ, List, Option, Some, subst, sym}
+use Rattle.std.proofs.Common.{◌≡◌, ℕ, Bool, true, false, List, Option, subst, sym}
 use Rattle.std.specs.Prelude.{Result, Ok, Err, IfOk, OnOk}
 use Rattle.std.proofs.lemmas.Result.{IfOk-weaker, on_ok_weaker}
 use Rattle.ice_desk.specs.Given.{Giving}
@@ -9,21 +9,26 @@ use Rattle.icescan_audit_all.proofs.MoreGiven.{audits_more}
 use Rattle.icescan_audit_all.specs.Texts.{WroteAuditsAt}
 use Rattle.icescan_changes.proofs.MoreGiven.{more_changes}
 use Rattle.icescan_explain.proofs.MoreGiven.{more_explanations}
+use Rattle.icescan_files.specs.Folders.{named}
 use Rattle.icescan_forms.specs.declared.part.Part.{Part}
 use Rattle.icescan_parts.proofs.MoreKept.{more_part}
 use Rattle.icescan_parts.specs.Kept.{WrotePart}
 use Rattle.icescan_requests.proofs.GivenPlans.{more_plans}
+use Rattle.icescan_shares.proofs.MoreGiven.{more_finished, more_share, more_states}
 use Rattle.icescan_text.specs.declared.fault.RunFault.{RunFault}
 use Rattle.icescan_text.specs.declared.request.ChangesRequest.{ChangesRequest}
 use Rattle.icescan_text.specs.declared.request.Request.{Request}
+use Rattle.icescan_text.specs.declared.share.Share.{Share}
 use Rattle.icescan_forms.specs.declared.format.Format.{Format}
 use Rattle.icescan_forms.specs.declared.format.Format.TheVariants as format
+use Rattle.icescan_words.specs.declared.command.Asked.{Asked}
 use Rattle.icescan_words.specs.declared.command.Command.TheVariants as command
 use Rattle.icescan_words.specs.declared.command.Relaxed.{Relaxed}
 use Rattle.icescan_words.specs.declared.command.Relaxed.TheVariants as relaxed
 use Rattle.icescan_words.specs.declared.command.Source.{Source}
 use Rattle.icescan_words.specs.declared.command.Source.TheVariants as source
-use Rattle.icescan_commands.specs.Reading.{WroteChanged}
+use Rattle.icescan_words.specs.declared.command.States.{States}
+use Rattle.icescan_commands.specs.Reading.{IsMeantBy, WroteChanged, WroteFinished, WroteFinishedAs, WroteTaken}
 use Rattle.icescan_commands.specs.Reading.{AreGivenBelow, GivingBelow, WroteAudited, WroteColumns, WroteExplained}
 use Rattle.icescan_commands.specs.Reading.{WroteAsked, WroteOfGiven, WrotePlanAt, WroteRelaxed, WroteShown}
 use Rattle.icescan_commands.specs.Runs.{ended}
@@ -108,6 +113,57 @@ relaxed_more : (gives more : Giving) → ((path : List ℕ) (found : Option (Lis
 relaxed_more gives more wider what form path request o o' (metadata, made, read, is, wrote) =
     (metadata, made, wider path _ read, is, asked_more gives more wider what form path made.request o o' wrote)
 
+meant_more : (gives more : Giving) → ((path : List ℕ) (found : Option (List ℕ)) → gives path found → more path found)
+    → (path : List ℕ) (relaxes : Bool) (asked meant : Request) → IsMeantBy relaxes gives path asked meant
+    → IsMeantBy relaxes more path asked meant
+meant_more gives more wider path false asked meant is = is
+meant_more gives more wider path true asked meant (metadata, made, read, is, same) =
+    (metadata, made, wider path _ read, is, same)
+
+taken_more : (gives more : Giving) → ((path : List ℕ) (found : Option (List ℕ)) → gives path found → more path found)
+    → (path : List ℕ) (asked : Asked) (share : Share) (o o' : Option (List ℕ))
+    → WroteTaken gives path asked share o o' → WroteTaken more path asked share o o'
+taken_more gives more wider path asked share o o' (meant, is, wrote) = (
+  meant,
+  meant_more gives more wider path asked.relaxed asked.request meant is,
+  more_share gives more wider path meant share o o' wrote,
+)
+
+finished_as_more : (gives more : Giving)
+    → ((path : List ℕ) (found : Option (List ℕ)) → gives path found → more path found) → (form : Format)
+    (kept : Giving) (path : List ℕ) (request : Request) (states : List (List ℕ)) (o o' : Option (List ℕ))
+    → WroteFinishedAs form gives kept path request states o o' → WroteFinishedAs form more kept path request states o o'
+finished_as_more gives more wider format.Text kept path request states o o' w =
+    more_finished gives more wider kept path request states o o' w
+finished_as_more gives more wider format.Json kept path request states o o' (metadata, read, wrote) =
+    let typed = wrote.1 in (
+      metadata,
+      wider path _ read,
+      (
+        wrote.0,
+        record {
+          planned = more_states gives more wider kept metadata request states wrote.0.plan typed.planned;
+          selection = typed.selection;
+          asked = typed.asked;
+          types_are = typed.types_are;
+          residual_is = typed.residual_is;
+        },
+        wrote.2,
+        wrote.3,
+        wrote.4,
+      ),
+    )
+
+finished_more : (gives more : Giving)
+    → ((path : List ℕ) (found : Option (List ℕ)) → gives path found → more path found) → (form : Format)
+    (kept : Giving) (path : List ℕ) (asked : Asked) (states : List (List ℕ)) (o o' : Option (List ℕ))
+    → WroteFinished form gives kept path asked states o o' → WroteFinished form more kept path asked states o o'
+finished_more gives more wider form kept path asked states o o' (meant, is, wrote) = (
+  meant,
+  meant_more gives more wider path asked.relaxed asked.request meant is,
+  finished_as_more gives more wider form kept path meant states o o' wrote,
+)
+
 changes_more : (gives more : Giving) → ((path : List ℕ) (found : Option (List ℕ)) → gives path found → more path found)
     → (form : Format) (path : List ℕ) (request : ChangesRequest) (o o' : Option (List ℕ))
     → WroteChanged form gives path request o o' → WroteChanged form more path request o o'
@@ -183,6 +239,23 @@ module _ (below : GivingBelow) where
   relaxed_below source.Bundle gives wider what form path request workers result o o' wrote = any_ok result
   relaxed_below (source.Folder place) gives wider what form path request workers result o o' wrote =
       on_ok_weaker result (relaxed_more gives (below place.folder place.prefix) wider what form path request o o') wrote
+
+  pub taken_below : (from : Source) (gives : Giving) → AreGivenBelow below from gives → (path : List ℕ)
+      (asked : Asked) (share : Share) (workers : ℕ) (result : Result Unit RunFault) (o o' : Option (List ℕ))
+      → OnOk result (WroteTaken gives path asked share o o')
+      → OnOk result (WroteOfGiven below (command.Take from asked share workers path) 0 o o')
+  taken_below source.Bundle gives wider path asked share workers result o o' wrote = any_ok result
+  taken_below (source.Folder place) gives wider path asked share workers result o o' wrote =
+      on_ok_weaker result (taken_more gives (below place.folder place.prefix) wider path asked share o o') wrote
+
+  pub finished_below : (from : Source) (gives : Giving) → AreGivenBelow below from gives → (path : List ℕ)
+      (asked : Asked) (states : States) (form : Format) (workers : ℕ) (result : Result Unit RunFault)
+      (o o' : Option (List ℕ)) → OnOk result (WroteFinished form gives (named below) path asked states.paths o o')
+      → OnOk result (WroteOfGiven below (command.Finish from asked states form workers path) 0 o o')
+  finished_below source.Bundle gives wider path asked states form workers result o o' wrote = any_ok result
+  finished_below (source.Folder place) gives wider path asked states form workers result o o' wrote =
+      on_ok_weaker result (finished_more gives (below place.folder place.prefix) wider form (named below) path asked
+      states.paths o o') wrote
 
   pub changes_below : (from : Source) (gives : Giving) → AreGivenBelow below from gives → (form : Format)
       (path : List ℕ) (request : ChangesRequest) (workers : ℕ) (result : Result Unit RunFault)

@@ -47,6 +47,7 @@ module _ (read : Result Commitment RunFault) (at : List ℕ → Type 0) (out : L
   ends_commit (run.Filter f) h = h
   ends_commit (run.Drill f) h = h
   ends_commit (run.Locate f) h = h
+  ends_commit (run.State path flaw) h = h
   ends_commit (run.Lineage f) h = h
   ends_commit (run.Change f) h = h
   ends_commit (run.Prepare f) h = h

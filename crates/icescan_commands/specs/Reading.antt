@@ -1,6 +1,6 @@
 -- What a command over a folder wrote, by what reads below the folder gave: also where files change from one read to the
 -- next.
-use Rattle.std.specs.Prelude.{◌≡◌, ℕ, List, Option, Some, Result, Ok, Err}
+use Rattle.std.specs.Prelude.{◌≡◌, ℕ, Bool, true, false, List, Option, Some, Result, Ok, Err}
 use Rattle.ice_desk.specs.Given.{Giving}
 use Rattle.ice_meta.specs.declared.metadata.Target.{Target}
 use Rattle.icescan_audit.specs.JsonLines.{WroteAnAuditAs}
@@ -8,6 +8,8 @@ use Rattle.icescan_audit_all.specs.Texts.{WroteAuditsAt}
 use Rattle.icescan_changes.specs.Answers.{WroteChangesOfGiven}
 use Rattle.icescan_columns.specs.Columns.{columns_of, shown_json_of}
 use Rattle.icescan_explain.specs.JsonLines.{WroteAnExplanationAs}
+use Rattle.icescan_files.specs.Folders.{named}
+use Rattle.icescan_json.specs.Finished.{WroteJsonOfStates}
 use Rattle.icescan_json.specs.JsonAnswers.{IsTypedListOfGiven, IsTypedOfGivenAt, WroteJsonThat}
 use Rattle.icescan_orphans.specs.Written.{WroteStrays}
 use Rattle.icescan_parts.specs.Kept.{WrotePart}
@@ -15,11 +17,14 @@ use Rattle.icescan_relaxed.specs.Requests.{relaxed_request}
 use Rattle.icescan_relaxed.specs.declared.requests.RelaxedRequest.{RelaxedRequest}
 use Rattle.icescan_requests.specs.GivenPlans.{IsListPlanOfGiven, IsPlanOfGivenAt, WrotePlanThat}
 use Rattle.icescan_requests.specs.Shows.{WroteText, show_of}
+use Rattle.icescan_shares.specs.Given.{WroteJoin, WrotePlanOfStates, WroteShare}
 use Rattle.icescan_text.specs.declared.fault.RunFault.{RunFault}
 use Rattle.icescan_text.specs.declared.request.ChangesRequest.{ChangesRequest}
 use Rattle.icescan_text.specs.declared.request.Request.{Request}
+use Rattle.icescan_text.specs.declared.share.Share.{Share}
 use Rattle.icescan_forms.specs.declared.format.Format.{Format}
 use Rattle.icescan_forms.specs.declared.format.Format.TheVariants as format
+use Rattle.icescan_words.specs.declared.command.Asked.{Asked}
 use Rattle.icescan_words.specs.declared.command.Command.{Command}
 use Rattle.icescan_words.specs.declared.command.Command.TheVariants as command
 use Rattle.icescan_words.specs.declared.command.Lists.TheVariants as lists
@@ -95,6 +100,33 @@ abbrev pub WroteChanged : Format → Giving → List ℕ → ChangesRequest → 
 WroteChanged form gives path request output output' = (metadata : List ℕ) × gives path (Some metadata)
     × WroteChangesOfGiven form gives metadata request output output'
 
+-- the request that is meant: the one that is asked, or the same relaxed, by metadata that a read of the path gave
+abbrev pub IsMeantBy : Bool → Giving → List ℕ → Request → Request → Type 0
+IsMeantBy false gives path asked meant = meant ≡ asked
+IsMeantBy true gives path asked meant = (metadata : List ℕ) × (made : RelaxedRequest) × gives path (Some metadata)
+    × (relaxed_request metadata asked ≡ Ok made) × (meant ≡ made.request)
+
+abbrev pub IsMeant : Giving → List ℕ → Asked → Request → Type 0
+IsMeant gives path asked meant = IsMeantBy asked.relaxed gives path asked.request meant
+
+-- the state of a share of the plan that is asked of the table whose metadata is at a path
+abbrev pub WroteTaken : Giving → List ℕ → Asked → Share → Option (List ℕ) → Option (List ℕ) → Type 0
+WroteTaken gives path asked share output output' = (meant : Request) × IsMeant gives path asked meant
+    × WroteShare gives path meant share output output'
+
+-- the plan of states, in a form
+abbrev pub WroteFinishedAs : Format → Giving → Giving → List ℕ → Request → List (List ℕ) → Option (List ℕ)
+    → Option (List ℕ) → Type 0
+WroteFinishedAs format.Text gives kept path request states output output' =
+    WrotePlanOfStates gives kept path request states output output'
+WroteFinishedAs format.Json gives kept path request states output output' =
+    WroteJsonOfStates gives kept path request states output output'
+
+abbrev pub WroteFinished : Format → Giving → Giving → List ℕ → Asked → List (List ℕ) → Option (List ℕ)
+    → Option (List ℕ) → Type 0
+WroteFinished form gives kept path asked states output output' = (meant : Request) × IsMeant gives path asked meant
+    × WroteFinishedAs form gives kept path meant states output output'
+
 -- What a command wrote that ended without a fault and told of so many faults of a table: over a folder, of bytes that
 -- reads below it gave. Of a commit `IsStored` and `IsStoredOfGiven` say more.
 abbrev pub WroteOfGiven : GivingBelow → Command → ℕ → Option (List ℕ) → Option (List ℕ) → Type 0
@@ -120,6 +152,11 @@ WroteOfGiven below (command.Reachable (source.Folder place) part form path) coun
     WrotePart (given_at below place) form part path output output'
 WroteOfGiven below (command.Orphans place older form path) count output output' =
     WroteStrays (given_at below place) form older path output output'
+WroteOfGiven below (command.Take (source.Folder place) asked share workers path) count output output' =
+    WroteTaken (given_at below place) path asked share output output'
+WroteOfGiven below (command.Join states) count output output' = WroteJoin (named below) states.paths output output'
+WroteOfGiven below (command.Finish (source.Folder place) asked states form workers path) count output output' =
+    WroteFinished form (given_at below place) (named below) path asked states.paths output output'
 WroteOfGiven below _ count output output' = Unit {0}
 
 -- the same of words that were read

@@ -155,6 +155,9 @@ answer_to below (command.Changes source request form workers path) input =
 answer_to below (command.Locate folder form) input = None
 answer_to below (command.Reachable source part form path) input = None
 answer_to below (command.Orphans place older form path) input = None
+answer_to below (command.Take source asked share workers path) input = None
+answer_to below (command.Join states) input = None
+answer_to below (command.Finish source asked states form workers path) input = None
 answer_to below (command.Drill asked) input = None
 answer_to below (command.Text text) input = Some (Ok (plain text))
 
@@ -186,6 +189,9 @@ failing_of below may_fail (command.Changes source request form workers path) wri
 failing_of below may_fail (command.Locate folder form) write = failing_unread write
 failing_of below may_fail (command.Reachable source part form path) write = failing_unread write
 failing_of below may_fail (command.Orphans place older form path) write = failing_unread write
+failing_of below may_fail (command.Take source asked share workers path) write = failing_unread write
+failing_of below may_fail (command.Join states) write = failing_unread write
+failing_of below may_fail (command.Finish source asked states form workers path) write = failing_unread write
 failing_of below may_fail (command.Drill asked) write = failing_unread write
 failing_of below may_fail (command.Text text) write = failing_unread write
 
@@ -296,10 +302,13 @@ abbrev pub StoredOfGivenAs : Given → Result Command RunFault → Result Unit R
 StoredOfGivenAs given asked result left =
     IsStoredOfGivenBy asked given.gives given.stored result left.files given.output left.output
 
--- Beside the answer under a relaxed filter a text without control characters was written to the errors, which says what
--- was not asked; beside any other answer nothing.
+-- Beside the answer under a relaxed filter, and beside a share and the plan of states, whose filter may be relaxed, a
+-- text without control characters was written to the errors, which says what was not asked; beside any other answer
+-- nothing.
 abbrev pub WroteBeside : Result Command RunFault → Option (List ℕ) → Option (List ℕ) → Type 0
 WroteBeside (Ok (command.Relaxed what source request form workers path)) errors errors' = AppendsPlain errors errors'
+WroteBeside (Ok (command.Take source asked share workers path)) errors errors' = AppendsPlain errors errors'
+WroteBeside (Ok (command.Finish source asked states form workers path)) errors errors' = AppendsPlain errors errors'
 WroteBeside _ errors errors' = errors' ≡ errors
 
 -- the program ended without a fault: it wrote the answer to its output, and nothing else

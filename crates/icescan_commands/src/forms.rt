@@ -20,7 +20,7 @@ use contract_words::{Items, Text};
 use ice_desk::Files;
 use ice_meta::Target;
 use icescan_audit::{audit_file, audit_file_json};
-use icescan_changes::{changes_file, changes_file_json};
+use icescan_changes::changes_file;
 use icescan_columns::show_file_json;
 use icescan_explain::explain_file;
 use icescan_forms::Format;
@@ -192,10 +192,7 @@ pub fn write_changes<H: Threads + Sync, S, P, F: Files + Sync, W: Sink>(
 {
     let host = system.host;
     let alloc = system.alloc;
-    match format {
-        Format::Text => changes_file(host, alloc, files, path, request, workers, output),
-        Format::Json => changes_file_json(host, alloc, files, path, request, workers, output),
-    }
+    changes_file(host, alloc, files, format, path, request, workers, output)
 }
 
 /// Writes the audit of a snapshot of the table whose metadata is at a path, by so many workers, and gives the number of

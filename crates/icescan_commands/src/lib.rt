@@ -6,6 +6,7 @@ mod arms;
 mod commit_lines;
 mod explaining;
 mod forms;
+mod sharing;
 mod system;
 mod table_files;
 mod words;
@@ -20,7 +21,7 @@ pub use icescan_files::{
 };
 pub use icescan_forms::{Format, Part};
 pub use icescan_hints::{Kind, Looks};
-pub use icescan_json::{plan_file_json, run_list_plan_json};
+pub use icescan_json::{finish_file_json, plan_file_json, run_list_plan_json};
 pub use icescan_orphans::{AgedFolders, Search, orphans_file};
 pub use icescan_parts::part_file;
 pub use icescan_progress::{Cleared, Progress, ProgressLine, Screen, Silent, Terminals};
@@ -29,7 +30,10 @@ pub use icescan_requests::{
     Selection, plan_file, plans_of_true_summaries, run_list_plan, run_plan, run_plan_with,
     run_show, select, show_file,
 };
-pub use icescan_text::{CommitRequest, Request};
-pub use icescan_words::{Command, Lists, Located, Place, Relaxed, Source, parse_words};
+pub use icescan_shares::{finish_file, join_files, take_file};
+pub use icescan_text::{CommitRequest, Request, Share};
+pub use icescan_words::{
+    Asked, Command, Lists, Located, Place, Relaxed, Source, States, parse_words,
+};
 pub use system::{System, links_of};
 pub use words::run_words;

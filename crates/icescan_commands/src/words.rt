@@ -15,6 +15,7 @@ use crate::arms::{
     TableAt, audit, audit_all, changes, columns, commit, drill, explain, list_plan, locate,
     orphans, plan, reachable, relaxed, show, tell, tell_unasked,
 };
+use crate::sharing::{finish, join, take};
 use crate::system::System;
 use icescan_drill::Watch;
 use icescan_files::{Folders, Stores};
@@ -117,6 +118,18 @@ where
         }
         Command::Locate(folder, located) => {
             no_findings(locate(system, folder, *located, output))
+        }
+        Command::Take(source, asked, share, workers, path) => {
+            let table = &TableAt { source, path };
+            let answer = take(system, table, asked, *share, *workers, input, output);
+            no_findings(tell_unasked(system.alloc, answer, errors))
+        }
+        Command::Join(states) => no_findings(join(system, states, output)),
+        Command::Finish(source, asked, states, format, workers, path) => {
+            let table = &TableAt { source, path };
+            let (format, workers) = (*format, *workers);
+            let answer = finish(system, table, asked, states, format, workers, input, output);
+            no_findings(tell_unasked(system.alloc, answer, errors))
         }
         Command::Drill(asked) => no_findings(drill(system.host, system.alloc, *asked, output)),
         Command::Text(text) => no_findings(tell(text, output)),

@@ -271,6 +271,7 @@ putting_refuses (run.Finish m) of = absurd of
 putting_refuses (run.Filter m) of = absurd of
 putting_refuses (run.Drill m) of = absurd of
 putting_refuses (run.Locate m) of = absurd of
+putting_refuses (run.State path flaw) of = absurd of
 putting_refuses (run.Lineage m) of = absurd of
 putting_refuses run.Workers of = absurd of
 
@@ -295,6 +296,7 @@ prepare_refuses read f out files files' store sink (run.Filter m) of h = absurd 
 prepare_refuses read f out files files' store sink (run.Conflict path) of h = absurd of
 prepare_refuses read f out files files' store sink (run.Drill m) of h = absurd of
 prepare_refuses read f out files files' store sink (run.Locate m) of h = absurd of
+prepare_refuses read f out files files' store sink (run.State path flaw) of h = absurd of
 prepare_refuses read f out files files' store sink (run.Lineage m) of h = absurd of
 prepare_refuses read f out files files' store sink run.Workers of h = absurd of
 
@@ -319,5 +321,6 @@ put_refuses read f out files files' store sink (run.Change m) c is h = absurd h
 put_refuses read f out files files' store sink (run.Prepare m) c is h = absurd h
 put_refuses read f out files files' store sink (run.Drill m) c is h = absurd h
 put_refuses read f out files files' store sink (run.Locate m) c is h = absurd h
+put_refuses read f out files files' store sink (run.State path flaw) c is h = absurd h
 put_refuses read f out files files' store sink (run.Lineage m) c is h = absurd h
 put_refuses read f out files files' store sink run.Workers c is h = absurd h

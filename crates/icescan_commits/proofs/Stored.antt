@@ -69,5 +69,6 @@ told_as_taken c out old new (run.Change m) free h other = absurd h
 told_as_taken c out old new (run.Prepare m) free h other = absurd h
 told_as_taken c out old new (run.Drill m) free h other = absurd h
 told_as_taken c out old new (run.Locate m) free h other = absurd h
+told_as_taken c out old new (run.State path flaw) free h other = absurd h
 told_as_taken c out old new (run.Lineage m) free h other = absurd h
 told_as_taken c out old new run.Workers free h other = absurd h

@@ -1,8 +1,8 @@
 -- How often delete files are counted, each by its place.
 use Rattle.std.proofs.Common.{◌≡◌, ◌<◌, ◌≤◌, ◌+◌, ℕ, zero, suc, Bool, true, false, cond, List, [], ◌∷◌, ◌++◌}
-use Rattle.std.proofs.Common.{Option, Some, add-one, refl, sym, ap, ◌∙◌, subst, arith, filter, length, take}
+use Rattle.std.proofs.Common.{Some, add-one, refl, sym, ap, ◌∙◌, subst, arith, filter, length, take}
 use Rattle.std.specs.Prelude.{get_or, option_map, replicate, set, slice_get, sum_by}
-use Rattle.std.specs.List.{flat_map, sum, AllByRecursion}
+use Rattle.std.specs.List.{sum, AllByRecursion}
 use Rattle.std.specs.Str.{bytes_eq}
 use Rattle.std.proofs.lemmas.List.{append-nil, length-append, take_more}
 use Rattle.std.proofs.lemmas.List.Concat.{flat_map-cons}

@@ -8,11 +8,11 @@ use Rattle.icescan_explain.specs.Columns.{columns_in}
 use Rattle.icescan_explain.specs.Explanations.{explained, explained_at, rows_explained}
 use Rattle.icescan_explain.specs.RowsTold.{rows_told}
 use Rattle.icescan_explain.specs.declared.manifests.Explanation.{Explanation}
-use Rattle.icescan_requests.specs.Plans.{manifests, over_wanted_rows, reads, reads_at, reads_behind, rows_plan}
-use Rattle.icescan_requests.specs.Plans.{selected_rows}
+use Rattle.icescan_requests.specs.Plans.{list_of, manifests, over_wanted_rows, reads, reads_at, reads_behind}
+use Rattle.icescan_requests.specs.Plans.{rows_plan, selected_rows}
 use Rattle.icescan_requests.specs.Selections.{selected}
 use Rattle.icescan_requests.specs.declared.selected_rows.SelectedRows.{SelectedRows}
-use Rattle.icescan_requests.proofs.Plans.{are_found, reads_selected}
+use Rattle.icescan_requests.proofs.Plans.{are_found, reads_list, reads_selected}
 use Rattle.ice_state.specs.Contents.{World}
 use Rattle.ice_state.specs.Lines.{OwnedLine}
 use Rattle.ice_state.specs.Scans.{by_row_path}
@@ -35,13 +35,16 @@ module _ (f : List ℕ → Type 0) (world : World) (metadata : List ℕ) (reques
   abbrev stops : List ℕ → Type 0
   stops = EndsAt world f (reads world metadata request)
 
-  pub no_rows_found : (e : RunFault) → MayEnd (selected_rows world metadata request) stops ⊥ e
+  pub no_rows_found : (e : RunFault)
+      → MayEnd (selected_rows world metadata request) (EndsAt world f (list_of (selected metadata request))) ⊥ e
       → MayEnd (explained world metadata request) stops ⊥ e
   unfolding explained selected_rows
   no_rows_found e h =
       two_end stops (selected metadata request) (λ s. rows_at world s.list)
       (λ s rows. record { rows = rows; specs = s.specs; filter = s.filter })
-      (λ s rows. rows_explained world s request rows) e h
+      (λ s rows. rows_explained world s request rows) e
+      (more_reads (selected_rows world metadata request) (EndsAt world f (list_of (selected metadata request))) stops ⊥
+      e (reads_list f world metadata request) h)
 
   module _ (found : SelectedRows) (has : selected_rows world metadata request ≡ Ok found) where
     abbrev planned : Result (List OwnedLine) RunFault

@@ -1,12 +1,6 @@
 -- How often a path was counted, in a map whose keys are byte strings.
 use Rattle.std.proofs.Common.{◌≡◌, ℕ, ◌+◌, Ordering, Bool, true, false, cond, List, Option, Some, Vec, Global}
-use Rattle.std.proofs.Common.{refl, sym, ap, ◌∙◌, subst, arith, [], ◌∷◌, ◌++◌, ◌≤◌, add-one, filter, length, take}
-use Rattle.std.specs.Prelude.{slice_get, sum_by}
-use Rattle.std.proofs.Math.Seq.{take-suc}
-use Rattle.std.proofs.lemmas.List.{length-append}
-use Rattle.std.proofs.lemmas.List.Elements.{filter-append}
-use Rattle.std.proofs.lemmas.List.Sums.{sum_by-append}
-use Rattle.std.proofs.lemmas.Option.{get_or_from_slice_get, slice_get_within}
+use Rattle.std.proofs.Common.{refl, sym, ap, ◌∙◌, subst, arith}
 use Rattle.std.specs.Prelude.{unwrap_or}
 use Rattle.std.specs.BTreeMap as tree
 use Rattle.std.specs.BTreeMap.{BTreeMap}
@@ -17,9 +11,7 @@ use Rattle.std.specs.Ordering.{nat_cmp, is_eq}
 use Rattle.std.specs.Str.{bytes_eq}
 use Rattle.std.proofs.lemmas.Map.Text.{is_eq-slice_cmp}
 use Rattle.std.proofs.lemmas.Slice.Eq.{bytes_eq-Decides}
-use Rattle.ice_manifest_reading.specs.declared.entry.Entry.{Entry}
-use Rattle.ice_state.specs.Lines.{OwnedLine}
-use Rattle.icescan_explain.specs.Applying.{applied, named, named_in_line, times_in}
+use Rattle.icescan_explain.specs.Applying.{times_in}
 use Rattle.icescan_explain.specs.declared.applied.Applied.{Applied}
 
 apart : (bs cs ks : List ℕ) → bytes_eq bs cs ≡ false → is_eq (slice_cmp nat_cmp bs ks) ≡ true

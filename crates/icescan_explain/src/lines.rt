@@ -16,17 +16,11 @@ use crate::counts::{Counts, counts_of};
 use crate::manifests::Explanation;
 use crate::verdict::{Fate, Subject, Verdict, subject_name};
 use contract_words::Text;
-use icescan_print::{Page, Sink, SinkFault, put_named_number};
+use icescan_forms::push_number;
+use icescan_print::{Page, Sink, SinkFault};
 use icescan_text::RunFault;
-use itoa::Integer;
 use shared_value::Shared;
 use std::alloc::{AllocError, Global};
-
-fn push_number<I: Integer>(text: &mut Vec<u8>, name: &[u8], n: I) -> Result<(), AllocError>
-    ensures { OnOk result (text.new.items ≡ text.old.items ++ (name.now ++ I.text n)) }
-{
-    put_named_number(text, name, n).map_err(|_| AllocError)
-}
 
 /// What stands before the name of a partition field.
 fn partition_word(subject: Subject) -> &'static [u8]

@@ -40,6 +40,10 @@ abbrev pub IsNamed : List ℕ → List ℕ → List ℕ → Option (List ℕ) �
 IsNamed folder prefix path None = (rest : List ℕ) → Inside prefix path rest → ⊥
 IsNamed folder prefix path (Some name) = (rest : List ℕ) × Inside prefix path rest × (name ≡ folder ++ 47 ∷ rest)
 
+-- what a read of a file by its name may give: what one below some folder may give, of the file that has this path there
+abbrev pub named : (List ℕ → List ℕ → List ℕ → Option (List ℕ) → Type 0) → List ℕ → Option (List ℕ) → Type 0
+named gives name found = (folder : List ℕ) × (prefix : List ℕ) × gives folder prefix name found
+
 -- ---- new files
 
 -- The refusal of a sync says that there is no such thing: EINVAL, or EOPNOTSUPP and ENOSYS.

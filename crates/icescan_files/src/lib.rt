@@ -8,6 +8,7 @@ mod folder;
 mod folders;
 mod input;
 mod listing;
+mod named;
 mod store;
 
 pub use bundle::Bundle;
@@ -15,4 +16,5 @@ pub use bundle_text::read_bundle;
 pub use folder::{CommitFolder, Disk, DiskFolder, Folder, HostDisk, Links, file_name};
 pub use folders::{Below, Folders, HostFolders, HostStores, Stores};
 pub use input::{MOST_READS, read_all};
+pub use named::NamedFiles;
 pub use store::{Store, StoreFault, put_files};

@@ -3,7 +3,6 @@ use Rattle.std.proofs.Common.{◌≡◌, ℕ, suc, List, [], ◌∷◌, ◌++◌
 use Rattle.std.specs.Prelude.{codes, nat_lt}
 use Rattle.std.specs.Borrow.{Bor}
 use Rattle.json.specs.Print.{quoted}
-use Rattle.serde_json.specs.Data.{Data}
 use Rattle.serde_json.specs.Written.{comma_if, compact_text, members_text}
 use Rattle.icescan_forms.specs.Objects.{member_of, members_of, object_line, value_json}
 use Rattle.icescan_forms.specs.ObjectTexts.{member_text, members_sent}

@@ -15,9 +15,10 @@ use std::marker::Model;
 /// Lines of JSON that are made in memory: whole objects, or lines that are put together piece by piece.
 #[derive(Debug, Drop)]
 pub struct ObjectLines {
-    text: Vec<u8>,
+    /// Those that were sent.
+    pub text: Vec<u8>,
     /// The last of them wait here.
-    page: Page,
+    pub page: Page,
 }
 
 impl Model for ObjectLines {

@@ -1,7 +1,7 @@
 //! The pieces that JSON is written in.
 
-ghost use Rattle.std.specs.Prelude.{◌≡◌, ◌<◌, ◌+◌, ◌^◌, length, nat_lt};
-ghost use Rattle.std.specs.Fmt.{decimal, signed_decimal};
+ghost use Rattle.std.specs.Prelude.{◌≡◌, nat_lt};
+ghost use Rattle.std.specs.Fmt.{signed_decimal};
 ghost use Rattle.json.specs.Print.{quoted};
 ghost use Rattle.serde_json.specs.Written.{comma_if};
 ghost use Rattle.icescan_print.specs.Written.{Sent};
@@ -33,23 +33,6 @@ pub fn put_ids<S: Sink>(page: &mut Page, sink: &mut S, ids: &[i32]) -> Result<()
 {
     for i in 0..ids.len() {
         page.put_named_int(sink, comma_before(i), ids[i])?;
-    }
-    Ok(())
-}
-
-/// Sends places with commas between them, the first as one that has this place in its list.
-pub fn put_places<S: Sink>(
-    page: &mut Page,
-    sink: &mut S,
-    first: usize,
-    places: &[u32],
-) -> Result<(), SinkFault>
-    requires { first < 2 ^ 63 }
-    ensures { Sent S.taken S.may_fail sink.old page.old result sink.new page.new
-        (each_from (λ _ i. decimal i) first places.now) }
-{
-    for i in 0..places.len() {
-        page.put_named_number(sink, comma_before(first + i), places[i])?;
     }
     Ok(())
 }

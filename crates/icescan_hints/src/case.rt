@@ -23,6 +23,8 @@ pub fn place_of(asked: &Command) -> Option<&Place> {
         Command::Changes(Source::Folder(place), _, _, _, _) => Some(place),
         Command::Reachable(Source::Folder(place), _, _, _) => Some(place),
         Command::Orphans(place, _, _, _) => Some(place),
+        Command::Take(Source::Folder(place), _, _, _, _) => Some(place),
+        Command::Finish(Source::Folder(place), _, _, _, _, _) => Some(place),
         _ => None,
     }
 }
@@ -52,7 +54,9 @@ impl<'a, F: Files> Case<'a, F> {
             | Command::Relaxed(_, _, _, _, _, path)
             | Command::Changes(_, _, _, _, path)
             | Command::Reachable(_, _, _, path)
-            | Command::Orphans(_, _, _, path) => Some(path.as_str()),
+            | Command::Orphans(_, _, _, path)
+            | Command::Take(_, _, _, _, path)
+            | Command::Finish(_, _, _, _, _, path) => Some(path.as_str()),
             Command::Commit(_, request) => Some(request.metadata.as_str()),
             _ => None,
         }
@@ -64,6 +68,9 @@ impl<'a, F: Files> Case<'a, F> {
             Command::Plan(_, request, _, _, _)
             | Command::Explain(_, request, _, _, _)
             | Command::Relaxed(_, _, request, _, _, _) => Some(request),
+            Command::Take(_, asked, _, _, _) | Command::Finish(_, asked, _, _, _, _) => {
+                Some(&asked.request)
+            }
             _ => None,
         }
     }
@@ -74,6 +81,9 @@ impl<'a, F: Files> Case<'a, F> {
             Command::Plan(_, request, _, _, _)
             | Command::Explain(_, request, _, _, _)
             | Command::Relaxed(_, _, request, _, _, _) => Some(&request.target),
+            Command::Take(_, asked, _, _, _) | Command::Finish(_, asked, _, _, _, _) => {
+                Some(&asked.request.target)
+            }
             Command::Columns(_, target, _, _) | Command::Audit(_, target, _, _, _) => Some(target),
             _ => None,
         }

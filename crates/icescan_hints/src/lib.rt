@@ -10,7 +10,6 @@ mod commit;
 mod commits;
 mod drill;
 mod fields;
-mod filter;
 mod lineage;
 mod looks;
 mod manifest;
@@ -22,6 +21,7 @@ mod paths;
 mod plan;
 mod run;
 mod schema;
+mod state;
 mod tables;
 mod telling;
 

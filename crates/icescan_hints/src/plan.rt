@@ -25,11 +25,13 @@ twice would both be a guess",
     ),
 };
 
-/// The scan reads each wanted manifest before it makes a plan, so none is missing.
+/// A plan reads each wanted manifest before it is made, so none is missing; of states one may be.
 const MISSING: Sentence = Sentence {
     name: "Z1 Missing",
-    wrong: "a manifest was not read",
-    advice: Some("nothing that a user does leads here: report it"),
+    wrong: "no state of those that were given has the manifest at this path; of several, the least path",
+    advice: Some(
+        "take the shares that are missing, as `take --part 3/8`, and finish with their states too",
+    ),
 };
 
 /// What a refusal of a scan says.

@@ -3,17 +3,17 @@
 use crate::avro::of_container;
 use crate::commit::{of_change, of_prepare};
 use crate::drill::of_drill;
-use crate::filter::of_filter;
 use crate::lineage::of_lineage;
 use crate::manifest::{of_list, of_manifest};
 use crate::metadata::of_metadata;
 use crate::plan::{of_finish, of_scan};
 use crate::schema::of_schema;
+use crate::state::of_state;
 use avro_file::AvroFault;
 use ice_manifest_reading::{ListFault, ManifestFault};
 use ice_meta_files::NewestFault;
 use ice_state::FinishFault;
-use icescan_hint_texts::{MEMORY, Sentence};
+use icescan_hint_texts::{MEMORY, Sentence, of_filter};
 use icescan_text::RunFault;
 use std::alloc::{AllocError, Global};
 
@@ -129,6 +129,7 @@ fn sentence_of(fault: &RunFault, commits: bool) -> Option<Sentence> {
         RunFault::Drill(fault) => of_drill(fault),
         RunFault::Locate(fault) => of_newest(fault),
         RunFault::Lineage(fault) => of_lineage(*fault),
+        RunFault::State(_, flaw) => of_state(*flaw),
         RunFault::Change(fault) => of_change(*fault),
         RunFault::Prepare(fault) => of_prepare(fault),
         RunFault::Conflict(_) => CONFLICT,

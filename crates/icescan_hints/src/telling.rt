@@ -104,7 +104,9 @@ fn add_workers<F: Files>(
         | Command::AuditAll(_, _, workers, _)
         | Command::Explain(_, _, _, workers, _)
         | Command::Relaxed(_, _, _, _, workers, _)
-        | Command::Changes(_, _, _, workers, _) => {
+        | Command::Changes(_, _, _, workers, _)
+        | Command::Take(_, _, _, workers, _)
+        | Command::Finish(_, _, _, _, workers, _) => {
             hint.here(alloc, format!(in alloc; "`--workers` is {workers}")?)
         }
         _ => Ok(()),

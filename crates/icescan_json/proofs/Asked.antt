@@ -1,14 +1,12 @@
 -- The plan that a request asks for, beside the types of the specs: what the plan gives, and why it may end.
 use Rattle.std.proofs.Common.{◌≡◌, ◌<◌, ◌≤◌, ◌∙◌, ℕ, List, ap, map, refl, sym, subst}
 use Rattle.std.specs.Prelude.{Ok}
-use Rattle.contract_words.specs.Outcome.{◌>>=◌}
 use Rattle.ice_meta.specs.declared.spec.Spec.{Spec}
 use Rattle.icescan_json.specs.Types.{spec_types}
 use Rattle.icescan_requests.specs.Plans.{Ending, TellsTheTruth, TellsTheTruthAt, answer_at, answer_by, over_all_rows}
 use Rattle.icescan_requests.specs.Plans.{over_wanted_rows}
 use Rattle.icescan_requests.specs.Selections.{AreSelected, selected}
 use Rattle.icescan_requests.specs.declared.selection.Selection.{Selection}
-use Rattle.icescan_requests.proofs.Plans.{answer_behind}
 use Rattle.ice_state.specs.Contents.{World}
 use Rattle.ice_state.specs.Lines.{OwnedLine}
 use Rattle.icescan_text.specs.Reads.{MayEnd, file_in}

@@ -3,12 +3,11 @@ use Rattle.std.proofs.Common.{◌≡◌, ℕ, List, [], ◌∷◌, ◌++◌, rev
 use Rattle.std.specs.Prelude.{codes, true, false}
 use Rattle.std.proofs.lemmas.List.{reverse-append}
 use Rattle.json.specs.Print.{escape_byte, quoted}
-use Rattle.serde_json.specs.Data.{Data}
 use Rattle.serde_json.specs.View.{items_of}
 use Rattle.serde_json.specs.Written.{compact_text, items_text}
 use Rattle.ice_value.specs.declared.column_type.ColumnType.{ColumnType}
 use Rattle.ice_meta.specs.declared.schema.Schema.{Schema}
-use Rattle.ice_filter.specs.Trees.{Tree, truth, predicate, both, either, read_part, read_parts, tree_of}
+use Rattle.ice_filter.specs.Trees.{Tree, both, either, read_part, read_parts, tree_of}
 use Rattle.ice_filter.specs.Trees.{top as top_tree, rest as rest_trees}
 use Rattle.ice_filter.specs.declared.parts.Part as parts
 use Rattle.ice_filter.specs.declared.parts.Part.TheVariants.{True, False, And, Or}
@@ -26,10 +25,9 @@ use Rattle.icescan_json.specs.ExpressionTexts.{question_text, top, rest}
 pub pushed_first : {A : Type 0} (xs : List A) (x : A) → reverse (xs ++ x ∷ []) ≡ x ∷ reverse xs
 pushed_first xs x = reverse-append xs (x ∷ [])
 
--- what four pieces put last come to
-pub four : (m0 m1 m2 m3 m4 a b c d : List ℕ) → m1 ≡ m0 ++ a → m2 ≡ m1 ++ b → m3 ≡ m2 ++ c → m4 ≡ m3 ++ d
-    → m4 ≡ m0 ++ (a ++ (b ++ (c ++ d)))
-four m0 m1 m2 m3 m4 a b c d p q r s = s ∙ rw (r, q, p) (simp append_assoc)
+-- what three pieces put last come to
+pub three : (m0 m1 m2 m3 a b c : List ℕ) → m1 ≡ m0 ++ a → m2 ≡ m1 ++ b → m3 ≡ m2 ++ c → m3 ≡ m0 ++ (a ++ (b ++ c))
+three m0 m1 m2 m3 a b c p q r = r ∙ rw (q, p) (simp append_assoc)
 
 -- ---- predicates
 

@@ -7,7 +7,8 @@ pub mod Tellings
 pub mod TellingsWhole
 pub mod Tasks
 pub mod Points
-pub mod Needed
+pub mod Marks
+pub mod Narrowed
 pub mod Written
 pub mod Asked
 pub mod Listings

@@ -21,25 +21,32 @@ question_front type name = codes "{\"type\":\"" ++ (type ++ (codes "\",\"term\":
 abbrev pub literal_text : Option ColumnType → Literal → List ℕ
 literal_text t l = compact_text (literal_json t l)
 
-abbrev pub compared_text : List ℕ → List ℕ → Option ColumnType → Literal → List ℕ
-compared_text type name t l = question_front type name ++ (codes ",\"value\":" ++ (literal_text t l ++ codes "}"))
-
 abbrev pub choices_text : Option ColumnType → Choices → List ℕ
 choices_text t ls = literal_text t ls.first ++ flat_map (λ l. 44 ∷ literal_text t l) ls.more
 
-abbrev pub among_text : List ℕ → List ℕ → Option ColumnType → Choices → List ℕ
-among_text type name t ls = question_front type name ++ (codes ",\"values\":[" ++ (choices_text t ls ++ codes "]}"))
+-- by what it is asked, and the end
+abbrev pub value_text : Option ColumnType → Literal → List ℕ
+value_text t l = codes ",\"value\":" ++ (literal_text t l ++ codes "}")
 
-abbrev pub tested_text : List ℕ → List ℕ → List ℕ
-tested_text type name = question_front type name ++ codes "}"
+abbrev pub values_text : Option ColumnType → Choices → List ℕ
+values_text t ls = codes ",\"values\":[" ++ (choices_text t ls ++ codes "]}")
+
+abbrev pub asked_name : Question → List ℕ
+asked_name (question.Compare sign l) = comparison_name sign
+asked_name (question.Among negated ls) = among_name negated
+asked_name question.Missing = codes "is-null"
+asked_name question.Present = codes "not-null"
+asked_name (question.Begins l) = codes "starts-with"
+
+abbrev pub asked_by : Option ColumnType → Question → List ℕ
+asked_by t (question.Compare sign l) = value_text t l
+asked_by t (question.Among negated ls) = values_text t ls
+asked_by t question.Missing = codes "}"
+asked_by t question.Present = codes "}"
+asked_by t (question.Begins l) = value_text t l
 
 abbrev pub question_text : List ℕ → Option ColumnType → Question → List ℕ
-question_text name t (question.Compare sign l) = compared_text (comparison_name sign) name t l
-question_text name t (question.Among negated ls) =
-    among_text (among_name negated) name t ls
-question_text name t question.Missing = tested_text (codes "is-null") name
-question_text name t question.Present = tested_text (codes "not-null") name
-question_text name t (question.Begins l) = compared_text (codes "starts-with") name t l
+question_text name t q = question_front (asked_name q) name ++ asked_by t q
 
 abbrev pub joined_text : List ℕ → List ℕ → List ℕ → List ℕ
 joined_text type left right = codes "{\"type\":\"" ++ (type ++ (codes "\",\"left\":" ++ (left

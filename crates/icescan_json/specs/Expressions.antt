@@ -1,8 +1,8 @@
 -- A filter as an expression of the Iceberg REST catalog (rest-catalog-open-api.yaml, Expression). A column is named by
 -- its full name, a literal is written as the value of its column's type ("JSON single-value serialization").
 -- (44 is the comma, 46 the point.)
-use Rattle.std.specs.Prelude.{ℕ, Bool, true, false, List, [], ◌∷◌, ◌++◌, codes, flat_map, map, Option, None, Some}
-use Rattle.std.specs.Prelude.{option_and_then, Result, Ok, Err}
+use Rattle.std.specs.Prelude.{ℕ, Bool, true, false, List, ◌∷◌, ◌++◌, codes, flat_map, map, Option, None, Some}
+use Rattle.std.specs.Prelude.{option_and_then, Result, Ok}
 use Rattle.contract_words.specs.Outcome.{◌>>=◌}
 use Rattle.serde_json.specs.Data.{Data, boolean, string, array, object, Members, no_members, member}
 use Rattle.serde_json.specs.View.{items_of}
@@ -18,7 +18,6 @@ use Rattle.ice_meta.specs.declared.schema.Schema.{Schema}
 use Rattle.ice_filter.specs.Binding.{path}
 use Rattle.ice_filter.specs.Parsing.{parsed}
 use Rattle.ice_filter.specs.Trees.{Tree, truth, predicate, both, either, tree_of}
-use Rattle.ice_filter.specs.declared.predicate.Choices.{Choices}
 use Rattle.ice_filter.specs.declared.predicate.Column.{Column}
 use Rattle.ice_filter.specs.declared.predicate.Literal.{Literal}
 use Rattle.ice_filter.specs.declared.predicate.Literal.TheVariants as literal

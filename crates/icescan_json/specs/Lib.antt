@@ -3,9 +3,11 @@ pub mod Decimals
 pub mod Values
 pub mod Types
 pub mod Expressions
+pub mod Finished
 pub mod ExpressionTexts
 pub mod PlanJson
 pub mod Told
 pub mod ToldWhole
+pub mod Named
 pub mod Texts
 pub mod JsonAnswers

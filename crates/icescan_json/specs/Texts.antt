@@ -14,6 +14,7 @@ use Rattle.ice_state.specs.Lines.{OwnedLine}
 use Rattle.ice_state.specs.PlaceLists.{LinePlaces}
 use Rattle.ice_state.specs.PlacedFiles.{plan_of, ArePlaced, PlanPlaces}
 use Rattle.icescan_forms.specs.Pieces.{each_from}
+use Rattle.icescan_json.specs.Named.{AreNamed}
 use Rattle.icescan_json.specs.PlanJson.{content_name, data_json, format_name, delete_json, plan_json}
 use Rattle.icescan_json.specs.Types.{types_of}
 use Rattle.icescan_json.specs.declared.types.SpecTypes.{SpecTypes}
@@ -23,26 +24,18 @@ use Rattle.icescan_json.specs.Values.{cell_json, type_at}
 abbrev pub json_text : List SpecTypes → Data → PlanPlaces → List ℕ
 json_text types residual p = compact_text (plan_json types residual p) ++ 10 ∷ []
 
--- The text says this plan, and that its rows are still to meet the filter whose JSON has this text. The plan's files
--- stand, each once, at some places; where no data file stands, no delete file does.
+-- The text says this plan, and that its rows are still to meet the filter whose JSON has this text. The plan's data
+-- files stand, each once, at some places, and so do the delete files that one of their tasks names, and no others.
 pub record IsJsonOf (types : List SpecTypes) (residual : List ℕ) (plan : List OwnedLine) (text : List ℕ) : Type 0 where
   pub filter : Data
   pub filter_is : residual ≡ compact_text filter
   pub files : PlanPlaces
   pub plan_is : plan_of files ≡ plan
   pub placed : ArePlaced files
-  pub needed : files.files ≡ [] → files.deletes ≡ []
+  pub named : AreNamed files
   pub text_is : text ≡ json_text types filter files
 
 -- ---- pieces of it
-
--- the files of a plan, without delete files where there are these data files and they are none
-abbrev pub needed_by : List Entry → PlanPlaces → PlanPlaces
-needed_by [] p = record { files = []; deletes = []; places = [] }
-needed_by (x ∷ xs) p = p
-
-abbrev pub needed : PlanPlaces → PlanPlaces
-needed p = needed_by p.files p
 
 abbrev pub cells_text : List (Option ColumnType) → List Cell → List ℕ
 cells_text types cells = each_from (λ i c. compact_text (cell_json (type_at types i) c)) 0 cells
@@ -103,7 +96,7 @@ task_texts types residual (x ∷ xs) (p ∷ ps) = task_text types residual x p �
 abbrev pub tasks_text : List SpecTypes → List ℕ → PlanPlaces → List ℕ
 tasks_text types residual p = each_from (λ _ t. t) 0 (task_texts types residual p.files p.places)
 
--- the text of the whole, without delete files where no data file stands
+-- the text of the whole
 abbrev pub plan_text : List SpecTypes → List ℕ → PlanPlaces → List ℕ
 plan_text types residual p = codes "{\"status\":\"completed\",\"delete-files\":[" ++ (deletes_text types p.deletes
     ++ (codes "],\"file-scan-tasks\":[" ++ (tasks_text types residual p ++ codes "]}\n")))

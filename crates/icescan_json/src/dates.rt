@@ -18,7 +18,7 @@ use jiff_core::civil::Date;
 /// How many days 400 years have, after which the calendar repeats.
 const CYCLE_DAYS: i64 = 146_097;
 
-const MICROSECONDS_PER_DAY: i64 = 86_400_000_000;
+pub const MICROSECONDS_PER_DAY: i64 = 86_400_000_000;
 
 /// How many days before 1970-01-01 the first day lies that `jiff_core` has.
 const DAYS_BEFORE: u32 = 4_371_587;

@@ -1,41 +1,41 @@
 //! Filters as expressions of the REST catalog.
 
-ghost use Rattle.std.specs.Prelude.{◌≡◌, ◌++◌, ◌∷◌, [], IfOk, OnOk, codes};
+ghost use Rattle.std.specs.Prelude.{◌≡◌, ◌++◌, ◌∷◌, [], IfOk, OnOk};
 ghost use Rattle.serde_json.specs.Data.{Data};
 ghost use Rattle.serde_json.specs.Written.{compact_text};
 ghost use Rattle.ice_filter.specs.Binding.{path};
 ghost use Rattle.ice_filter.specs.Trees.{tree_of};
-ghost use Rattle.icescan_json.specs.Expressions.{among_name, comparison_name, expression_json, full_name};
-ghost use Rattle.icescan_json.specs.Expressions.{predicate_json, type_named};
-ghost use Rattle.icescan_json.specs.Expressions.{every_row_text};
-ghost use Rattle.icescan_json.specs.ExpressionTexts.{among_text, choices_text, compared_text, joined_text, put};
-ghost use Rattle.icescan_json.specs.ExpressionTexts.{question_front, question_text, rest, tested_text, top};
+ghost use Rattle.icescan_json.specs.Expressions.{every_row_text, expression_json, full_name, predicate_json};
+ghost use Rattle.icescan_json.specs.Expressions.{type_named};
+ghost use Rattle.icescan_json.specs.ExpressionTexts.{asked_name, choices_text, joined_text, put, question_front};
+ghost use Rattle.icescan_json.specs.ExpressionTexts.{question_text, rest, top, value_text, values_text};
 
-use crate::json_text::JsonText;
+use crate::literals::push_literal;
 use contract_words::{Items, Text};
 use ice_filter::{Choices, Column, Comparison, Filter, Literal, Part, Predicate, Question};
 use ice_meta::Schema;
 use ice_value::ColumnType;
+use icescan_forms::ObjectLines;
 use std::alloc::{AllocError, Global};
 use std::marker::Model;
 
-fn comparison_name(sign: Comparison) -> &'static [u8]
-    ensures { result.now ≡ comparison_name sign }
+/// What is asked, in a word.
+fn asked_name(question: &Question) -> &'static [u8]
+    ensures { result.now ≡ asked_name question.now }
 {
-    match sign {
-        Comparison::Less => b"lt",
-        Comparison::AtMost => b"lt-eq",
-        Comparison::Greater => b"gt",
-        Comparison::AtLeast => b"gt-eq",
-        Comparison::Equal => b"eq",
-        Comparison::NotEqual => b"not-eq",
+    match question {
+        Question::Compare(Comparison::Less, _) => b"lt",
+        Question::Compare(Comparison::AtMost, _) => b"lt-eq",
+        Question::Compare(Comparison::Greater, _) => b"gt",
+        Question::Compare(Comparison::AtLeast, _) => b"gt-eq",
+        Question::Compare(Comparison::Equal, _) => b"eq",
+        Question::Compare(Comparison::NotEqual, _) => b"not-eq",
+        Question::Among(false, _) => b"in",
+        Question::Among(true, _) => b"not-in",
+        Question::Missing => b"is-null",
+        Question::Present => b"not-null",
+        Question::Begins(_) => b"starts-with",
     }
-}
-
-fn among_name(negated: bool) -> &'static [u8]
-    ensures { result.now ≡ among_name negated }
-{
-    if negated { b"not-in" } else { b"in" }
 }
 
 /// The names that lead to a column, with points between them.
@@ -78,95 +78,74 @@ fn type_named(
     }
 }
 
-impl JsonText {
-    /// Puts last what is asked of the column of a name.
-    fn push_asked(&mut self, asked: &[u8], name: &[u8]) -> Result<(), AllocError>
-        ensures { OnOk result (self.new ≡ self.old ++ question_front asked.now name.now) }
-    {
-        self.push(b"{\"type\":\"")?;
-        self.push(asked)?;
-        self.push(b"\",\"term\":")?;
-        self.push_quoted(name)
-    }
+/// Puts last what is asked of the column of a name.
+fn push_asked(text: &mut ObjectLines, asked: &[u8], name: &[u8]) -> Result<(), AllocError>
+    ensures { OnOk result (text.new ≡ text.old ++ question_front asked.now name.now) }
+{
+    text.put(b"{\"type\":\"")?;
+    text.put(asked)?;
+    text.put(b"\",\"term\":")?;
+    text.put_text(name)
+}
 
-    /// Puts a comparison with a literal last.
-    fn push_compared(
-        &mut self,
-        asked: &[u8],
-        name: &[u8],
-        column_type: Option<ColumnType>,
-        literal: &Literal,
-    ) -> Result<(), AllocError>
-        ensures { OnOk result (self.new ≡ self.old ++ compared_text asked.now name.now column_type literal.now) }
-    {
-        self.push_asked(asked, name)?;
-        self.push(b",\"value\":")?;
-        self.push_literal(column_type, literal)?;
-        self.push(b"}")
-    }
+/// Puts the literal last that a column is compared with, and the end.
+fn push_value(
+    text: &mut ObjectLines,
+    column_type: Option<ColumnType>,
+    literal: &Literal,
+) -> Result<(), AllocError>
+    ensures { OnOk result (text.new ≡ text.old ++ value_text column_type literal.now) }
+{
+    text.put(b",\"value\":")?;
+    push_literal(text, column_type, literal)?;
+    text.put(b"}")
+}
 
-    /// Puts literals last, with commas between them.
-    fn push_choices(
-        &mut self,
-        column_type: Option<ColumnType>,
-        choices: &Choices,
-    ) -> Result<(), AllocError>
-        ensures { OnOk result (self.new ≡ self.old ++ choices_text column_type choices.now) }
-    {
-        self.push_literal(column_type, &choices.first)?;
-        'literals: for literal in choices.more.as_slice() {
-            self.push(b",")?;
-            self.push_literal(column_type, literal)?;
-        }
-        Ok(())
+/// Puts literals last, with commas between them.
+fn push_choices(
+    text: &mut ObjectLines,
+    column_type: Option<ColumnType>,
+    choices: &Choices,
+) -> Result<(), AllocError>
+    ensures { OnOk result (text.new ≡ text.old ++ choices_text column_type choices.now) }
+{
+    push_literal(text, column_type, &choices.first)?;
+    'literals: for literal in choices.more.as_slice() {
+        text.put(b",")?;
+        push_literal(text, column_type, literal)?;
     }
+    Ok(())
+}
 
-    /// Puts last whether a column's value is among literals.
-    fn push_among(
-        &mut self,
-        asked: &[u8],
-        name: &[u8],
-        column_type: Option<ColumnType>,
-        choices: &Choices,
-    ) -> Result<(), AllocError>
-        ensures { OnOk result (self.new ≡ self.old ++ among_text asked.now name.now column_type choices.now) }
-    {
-        self.push_asked(asked, name)?;
-        self.push(b",\"values\":[")?;
-        self.push_choices(column_type, choices)?;
-        self.push(b"]}")
-    }
+/// Puts the literals last among which a column's value is to be, and the end.
+fn push_values(
+    text: &mut ObjectLines,
+    column_type: Option<ColumnType>,
+    choices: &Choices,
+) -> Result<(), AllocError>
+    ensures { OnOk result (text.new ≡ text.old ++ values_text column_type choices.now) }
+{
+    text.put(b",\"values\":[")?;
+    push_choices(text, column_type, choices)?;
+    text.put(b"]}")
+}
 
-    /// Puts a test without a literal last.
-    fn push_tested(&mut self, asked: &[u8], name: &[u8]) -> Result<(), AllocError>
-        ensures { OnOk result (self.new ≡ self.old ++ tested_text asked.now name.now) }
-    {
-        self.push_asked(asked, name)?;
-        self.push(b"}")
-    }
-
-    /// Puts last what is asked of the column of a name and a type.
-    fn push_question(
-        &mut self,
-        name: &[u8],
-        column_type: Option<ColumnType>,
-        question: &Question,
-    ) -> Result<(), AllocError>
-        ensures { OnOk result (self.new ≡ self.old ++ question_text name.now column_type question.now) }
-    {
-        match question {
-            Question::Compare(sign, literal) => {
-                self.push_compared(comparison_name(*sign), name, column_type, literal)
-            }
-            Question::Among(negated, choices) => {
-                self.push_among(among_name(*negated), name, column_type, choices)
-            }
-            Question::Missing => self.push_tested(b"is-null", name),
-            Question::Present => self.push_tested(b"not-null", name),
-            Question::Begins(literal) => {
-                self.push_compared(b"starts-with", name, column_type, literal)
-            }
-        }
+/// Puts last what is asked of the column of a name and a type.
+fn push_question(
+    text: &mut ObjectLines,
+    name: &[u8],
+    column_type: Option<ColumnType>,
+    question: &Question,
+) -> Result<(), AllocError>
+    ensures { OnOk result (text.new ≡ text.old ++ question_text name.now column_type question.now) }
+{
+    push_asked(text, asked_name(question), name)?;
+    match question {
+        Question::Compare(_, literal) => push_value(text, column_type, literal),
+        Question::Among(_, choices) => push_values(text, column_type, choices),
+        Question::Missing => text.put(b"}"),
+        Question::Present => text.put(b"}"),
+        Question::Begins(literal) => push_value(text, column_type, literal),
     }
 }
 
@@ -181,9 +160,9 @@ fn predicate_expression(
 {
     let column_type = type_named(alloc, schema, &predicate.column)?;
     let name = full_name(alloc, &predicate.column)?;
-    let mut text = JsonText::new(alloc)?;
-    text.push_question(&name, column_type, &predicate.question)?;
-    text.into_items()
+    let mut text = ObjectLines::new(alloc)?;
+    push_question(&mut text, &name, column_type, &predicate.question)?;
+    Ok(Items::from_vec(text.into_text()?))
 }
 
 /// A copy of a text.

@@ -1,56 +1,89 @@
 //! A whole plan.
 
-ghost use Rattle.std.specs.Prelude.{◌≡◌, ◌⊎◌, ◌<◌, ◌++◌, OnOk, IfErr, IsErrOf, length, List, map, slice_get, Some, ℕ};
+ghost use Rattle.std.specs.Prelude.{◌≡◌, ◌⊎◌, ◌<◌, ◌^◌, ◌++◌, OnOk, IfErr, IsErrOf, All, length, List, map, slice_get};
+ghost use Rattle.std.specs.Prelude.{Some, ℕ};
+ghost use Rattle.std.specs.Fmt.{decimal};
 ghost use Rattle.icescan_print.specs.Written.{Appends, AppendsFront, Sent};
 ghost use Rattle.ice_state.specs.PlacedFiles.{ArePlaced};
-ghost use Rattle.icescan_json.specs.Texts.{deletes_text, needed, plan_text, references_text, task_texts, tasks_text};
+ghost use Rattle.icescan_forms.specs.Pieces.{each_from};
+ghost use Rattle.icescan_json.specs.Named.{marked, moved, narrowed, rank};
+ghost use Rattle.icescan_json.specs.Texts.{deletes_text, plan_text, references_text, task_texts, tasks_text};
 ghost use Rattle.icescan_json.specs.Texts.{IsJsonOf};
 ghost use Rattle.icescan_json.specs.Types.{spec_types};
 
 use crate::expressions::Expression;
 use crate::files::{put_data_file, put_delete_file};
+use crate::named::NamedDeletes;
 use crate::types::{SpecTypes, types_of_specs};
 use ice_meta::Spec;
 use ice_state::{Lines, PlacedFiles};
-use icescan_forms::{comma_before, put_places};
+use icescan_forms::comma_before;
 use icescan_print::{Page, Sink, SinkFault};
 use icescan_text::RunFault;
 use std::alloc::Global;
 
-/// Sends the delete files, with commas between them.
+/// Sends the delete files that tasks name, with commas between them.
 fn put_deletes<S: Sink>(
     page: &mut Page,
     sink: &mut S,
     types: &[SpecTypes],
     plan: &PlacedFiles<'_>,
+    named: &NamedDeletes,
 ) -> Result<(), SinkFault>
+    requires { length named.now ≡ length plan.now.deletes }
     ensures { Sent S.taken S.may_fail sink.old page.old result sink.new page.new
-        (deletes_text types.now plan.now.deletes) }
+        (deletes_text types.now (marked named.now plan.now.deletes)) }
 {
     for i in 0..plan.count_deletes() {
-        let file = plan.delete(i);
-        page.put(sink, comma_before(i))?;
-        put_delete_file(page, sink, types, &file)?;
+        if named.has(i) {
+            let file = plan.delete(i);
+            page.put(sink, comma_before(named.place(i) as usize))?;
+            put_delete_file(page, sink, types, &file)?;
+        }
     }
     Ok(())
 }
 
-/// Sends the places of a task's delete files, where there are any.
+/// Sends the places in the list of the delete files at these places of the plan, with commas between them, the first as
+/// one that has this place among the references of its task.
+fn put_places<S: Sink>(
+    page: &mut Page,
+    sink: &mut S,
+    named: &NamedDeletes,
+    first: usize,
+    places: &[u32],
+) -> Result<(), SinkFault>
+    requires few { first < 2 ^ 63 }
+    requires within { All (λ n. n < length named.now) places.now }
+    ensures { Sent S.taken S.may_fail sink.old page.old result sink.new page.new
+        (each_from (λ _ n. decimal (rank named.now n)) first places.now) }
+{
+    for i in 0..places.len() {
+        let place = named.place(places[i] as usize);
+        page.put_named_number(sink, comma_before(first + i), place)?;
+    }
+    Ok(())
+}
+
+/// Sends the references of a task to its delete files, where there are any.
 fn put_references<S: Sink>(
     page: &mut Page,
     sink: &mut S,
+    named: &NamedDeletes,
     positions: &[u32],
     equalities: &[u32],
 ) -> Result<(), SinkFault>
+    requires positions { All (λ n. n < length named.now) positions.now }
+    requires equalities { All (λ n. n < length named.now) equalities.now }
     ensures { Sent S.taken S.may_fail sink.old page.old result sink.new page.new
-        (references_text (positions.now ++ equalities.now)) }
+        (references_text (map (rank named.now) positions.now ++ map (rank named.now) equalities.now)) }
 {
     if positions.len() + equalities.len() == 0 {
         return Ok(());
     }
     page.put(sink, b",\"delete-file-references\":[")?;
-    put_places(page, sink, 0, positions)?;
-    put_places(page, sink, positions.len(), equalities)?;
+    put_places(page, sink, named, 0, positions)?;
+    put_places(page, sink, named, positions.len(), equalities)?;
     page.put(sink, b"]")
 }
 
@@ -61,19 +94,22 @@ fn put_task<S: Sink>(
     types: &[SpecTypes],
     residual: &[u8],
     plan: &PlacedFiles<'_>,
+    named: &NamedDeletes,
     i: usize,
 ) -> Result<(), SinkFault>
-    requires { i < length plan.now.files }
+    requires there { i < length plan.now.files }
+    requires placed { ArePlaced plan.now }
+    requires marked { length named.now ≡ length plan.now.deletes }
     ensures { (text : List ℕ) →
-        slice_get (task_texts types.now residual.now plan.now.files plan.now.places) i ≡ Some text →
-        Sent S.taken S.may_fail sink.old page.old result sink.new page.new text }
+        slice_get (task_texts types.now residual.now plan.now.files (map (moved named.now) plan.now.places)) i
+        ≡ Some text → Sent S.taken S.may_fail sink.old page.old result sink.new page.new text }
 {
     let file = plan.file(i);
     let positions = plan.positions(i);
     let equalities = plan.equalities(i);
     page.put(sink, b"{\"data-file\":")?;
     put_data_file(page, sink, types, &file)?;
-    put_references(page, sink, positions, equalities)?;
+    put_references(page, sink, named, positions, equalities)?;
     page.put(sink, b",\"residual-filter\":")?;
     page.put(sink, residual)?;
     page.put(sink, b"}")
@@ -86,57 +122,39 @@ fn put_tasks<S: Sink>(
     types: &[SpecTypes],
     residual: &[u8],
     plan: &PlacedFiles<'_>,
+    named: &NamedDeletes,
 ) -> Result<(), SinkFault>
-    requires { ArePlaced plan.now }
+    requires placed { ArePlaced plan.now }
+    requires marked { length named.now ≡ length plan.now.deletes }
     ensures { Sent S.taken S.may_fail sink.old page.old result sink.new page.new
-        (tasks_text types.now residual.now plan.now) }
+        (tasks_text types.now residual.now (narrowed named.now plan.now)) }
 {
     for i in 0..plan.count_files() {
         page.put(sink, comma_before(i))?;
-        put_task(page, sink, types, residual, plan, i)?;
+        put_task(page, sink, types, residual, plan, named, i)?;
     }
     Ok(())
 }
 
-/// Sends a plan's JSON.
+/// Sends a plan's JSON, with the delete files that tasks name.
 fn put_plan<S: Sink>(
     page: &mut Page,
     sink: &mut S,
     types: &[SpecTypes],
     residual: &[u8],
     plan: &PlacedFiles<'_>,
+    named: &NamedDeletes,
 ) -> Result<(), SinkFault>
-    requires { ArePlaced plan.now }
+    requires placed { ArePlaced plan.now }
+    requires marked { length named.now ≡ length plan.now.deletes }
     ensures { Sent S.taken S.may_fail sink.old page.old result sink.new page.new
-        (plan_text types.now residual.now plan.now) }
+        (plan_text types.now residual.now (narrowed named.now plan.now)) }
 {
     page.put(sink, b"{\"status\":\"completed\",\"delete-files\":[")?;
-    put_deletes(page, sink, types, plan)?;
+    put_deletes(page, sink, types, plan, named)?;
     page.put(sink, b"],\"file-scan-tasks\":[")?;
-    put_tasks(page, sink, types, residual, plan)?;
+    put_tasks(page, sink, types, residual, plan, named)?;
     page.put(sink, b"]}\n")
-}
-
-/// Sends a plan's JSON, without delete files where no data file stands: none of them applies, and clients refuse them.
-fn put_needed<S: Sink>(
-    page: &mut Page,
-    sink: &mut S,
-    types: &[SpecTypes],
-    residual: &[u8],
-    plan: &PlacedFiles<'_>,
-) -> Result<(), SinkFault>
-    requires { ArePlaced plan.now }
-    ensures { Sent S.taken S.may_fail sink.old page.old result sink.new page.new
-        (plan_text types.now residual.now (needed plan.now)) }
-{
-    if plan.count_files() == 0 {
-        page.put(
-            sink,
-            b"{\"status\":\"completed\",\"delete-files\":[],\"file-scan-tasks\":[]}\n",
-        )
-    } else {
-        put_plan(page, sink, types, residual, plan)
-    }
 }
 
 /// Writes a plan as `write_plan_json` does, by the types of the specs. The text, and each refusal, are the same.
@@ -157,7 +175,8 @@ pub fn write_typed_plan<S: Sink>(
 {
     let mut page = Page::new(alloc)?;
     let plan = lines.placed_files();
-    put_needed(&mut page, sink, types, residual.as_bytes(), &plan)?;
+    let named = NamedDeletes::of(alloc, &plan)?;
+    put_plan(&mut page, sink, types, residual.as_bytes(), &plan, &named)?;
     page.flush(sink)?;
     Ok(())
 }
@@ -168,9 +187,8 @@ pub fn write_typed_plan<S: Sink>(
 /// The partition values have the types of the specs, whose fields have the types of their columns in the schema that is
 /// asked: days are dates. A value that isn't of its type, and one of which no type is known, as without specs, is
 /// written as what it is: a boolean, a number, a text, or the hexadecimal digits of its bytes. A year outside 0000 to
-/// 9999 has a sign. Each task has the filter that the rows of its data file are still to meet. All delete files of the
-/// plan stand in the list, those too that apply to no data file; but none where no data file stands, which clients
-/// refuse.
+/// 9999 has a sign. Each task has the filter that the rows of its data file are still to meet. The delete files that
+/// apply to a data file stand in the list, each once; those of the plan that apply to none do not.
 ///
 /// It refuses when out of memory, and then nothing was written, or where a write fails, and then a front of the text
 /// was.

@@ -9,20 +9,12 @@ ghost use Rattle.ice_state.specs.Contents.{World};
 ghost use Rattle.icescan_text.specs.Reads.{MayEnd};
 
 use crate::typed::{TypedPlan, write_json};
-use ice_desk::{Files, Gate};
+use ice_desk::Files;
 use icescan_print::Sink;
-use icescan_requests::{plan_table, plans_of_true_summaries};
+use icescan_requests::{OpenGate, plan_table, plans_of_true_summaries};
 use icescan_text::{Request, RunFault, Workers, read_file};
 use std::alloc::Global;
 use std::thread::Threads;
-
-/// A gate at which no worker is held up, and that nobody watches.
-#[derive(Drop)]
-struct OpenGate;
-
-impl Gate for OpenGate {
-    fn before_take(&self, _worker: usize, _i: usize) {}
-}
 
 /// The plan that a request asks for, of the table whose metadata is in the file at a path, by so many workers; the types
 /// of the partition values of the table's specs; and the filter.

@@ -1,22 +1,19 @@
 //! Partition values.
 
 ghost use Rattle.std.specs.Prelude.{◌≡◌, ◌<◌, Some};
-ghost use Rattle.std.specs.List.{flat_map};
 ghost use Rattle.json.specs.Print.{escape, quoted};
 ghost use Rattle.serde_json.specs.Written.{compact_text};
 ghost use Rattle.icescan_print.specs.Written.{Sent};
 ghost use Rattle.icescan_json.specs.Texts.{cells_text};
-ghost use Rattle.icescan_json.specs.Values.{bytes_json, cell_json, decimal_json, hex_text, time_json, type_at};
+ghost use Rattle.icescan_json.specs.Values.{bytes_json, cell_json, hex_text, time_json, type_at};
 ghost use Rattle.icescan_json.specs.Values.{uuid_json, whole_json};
 
-use crate::dates::{put_date, put_time, put_timestamp};
+use crate::dates::{MICROSECONDS_PER_DAY, put_date, put_time, put_timestamp};
 use crate::decimals::{is_decimal, put_decimal_text, unscaled};
 use ice_value::{Cell, ColumnType};
 use icescan_forms::{comma_before, hex_digit, put_escaped, put_quoted};
 use icescan_print::{Page, Sink, SinkFault};
 use uuid::Uuid;
-
-const MICROSECONDS_PER_DAY: i64 = 86_400_000_000;
 
 /// Sends partition values with commas between them, each with the type at its place.
 pub fn put_cells<S: Sink>(
@@ -95,6 +92,7 @@ fn put_time_or_number<S: Sink>(page: &mut Page, sink: &mut S, number: i64) -> Re
     }
 }
 
+/// Sends bytes as a value of a type: the text of a UUID or of a decimal, else, or where they are none, their digits.
 fn put_bytes<S: Sink>(
     page: &mut Page,
     sink: &mut S,
@@ -106,7 +104,13 @@ fn put_bytes<S: Sink>(
 {
     match column_type {
         Some(ColumnType::Uuid) => put_uuid(page, sink, bytes),
-        Some(ColumnType::Decimal { scale, .. }) => put_decimal(page, sink, scale, bytes),
+        Some(ColumnType::Decimal { scale, .. }) => {
+            if is_decimal(scale, bytes) {
+                put_decimal_text(page, sink, scale, unscaled(bytes))
+            } else {
+                put_hex(page, sink, bytes)
+            }
+        }
         _ => put_hex(page, sink, bytes),
     }
 }
@@ -123,23 +127,6 @@ fn put_uuid<S: Sink>(page: &mut Page, sink: &mut S, bytes: &[u8]) -> Result<(), 
             put_quoted(page, sink, text.as_bytes())
         }
         Err(_) => put_hex(page, sink, bytes),
-    }
-}
-
-/// Sends the text of a decimal, or the digits of the bytes where they are none.
-fn put_decimal<S: Sink>(
-    page: &mut Page,
-    sink: &mut S,
-    scale: u32,
-    bytes: &[u8],
-) -> Result<(), SinkFault>
-    ensures { Sent S.taken S.may_fail sink.old page.old result sink.new page.new
-        (compact_text (decimal_json scale bytes.now)) }
-{
-    if is_decimal(scale, bytes) {
-        put_decimal_text(page, sink, scale, unscaled(bytes))
-    } else {
-        put_hex(page, sink, bytes)
     }
 }
 

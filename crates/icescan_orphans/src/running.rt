@@ -1,9 +1,8 @@
 //! The files below a folder that a table does not reach, over any files.
 
-ghost use Rattle.std.specs.Prelude.{◌≡◌, ◌≢◌, ◌⊎◌, ◌++◌, IfErr, IfOk, IsErrOf, OnOk};
+ghost use Rattle.std.specs.Prelude.{◌≡◌, ◌≢◌, ◌⊎◌, IfErr, IfOk, IsErrOf, OnOk};
 ghost use Rattle.icescan_orphans.specs.Written.{AreStraysGiven, WroteStrays, stray_line, stray_lines, stray_word};
 ghost use Rattle.icescan_orphans.specs.Refused.{IsOfFolder};
-ghost use Rattle.icescan_print.specs.Pieces.{named_path};
 ghost use Rattle.icescan_reachable.specs.Refused.{IsRefused};
 ghost use Rattle.icescan_text.specs.declared.fault.RunFault.{RunFault};
 
@@ -12,10 +11,10 @@ use crate::known::{known_paths, with_slashes};
 use crate::told::paths_told;
 use contract_words::{Items, Text};
 use ice_desk::{Files, ReadFault};
-use icescan_forms::Format;
+use icescan_forms::{Format, push_path};
 use icescan_parts::lines_in;
 use icescan_paths::{AgedFile, Stray, StrayKind, strays};
-use icescan_print::{Sink, put_named_path, write_all};
+use icescan_print::{Sink, write_all};
 use icescan_reachable::lines_at;
 use icescan_text::RunFault;
 use std::alloc::{AllocError, Global};
@@ -94,18 +93,12 @@ fn stray_word(kind: StrayKind) -> &'static [u8]
     }
 }
 
-fn put_path(text: &mut Vec<u8>, name: &[u8], path: &[u8]) -> Result<(), AllocError>
-    ensures { OnOk result (text.new.items ≡ text.old.items ++ named_path name.now path.now) }
-{
-    put_named_path(text, name, path).map_err(|_| AllocError)
-}
-
 /// The line of a file.
 fn stray_line(alloc: Global, stray: &Stray) -> Result<Items<u8>, AllocError>
     ensures { IfOk result (λ text. text ≡ stray_line stray.now) }
 {
     let mut text = Vec::new(alloc);
-    put_path(&mut text, stray_word(stray.kind), stray.path.as_slice())?;
+    push_path(&mut text, stray_word(stray.kind), stray.path.as_slice())?;
     text.extend_from_slice(b"\n")?;
     Ok(Items::from_vec(text))
 }

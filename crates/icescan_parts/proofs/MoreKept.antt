@@ -55,7 +55,7 @@ pub more_part : (gives more : Giving) → ((path : List ℕ) (found : Option (Li
     → WrotePart gives form part path output output' → WrotePart more form part path output output'
 more_part gives more wider form part.All path output output' (lines, given, text) =
     (lines, more_lines gives more wider path lines given, text)
-more_part gives more wider form (part.Only snapshots) path output output' (gone, list, lines, given, text) =
-    (gone, list, lines, more_let_go gives more wider gone path lines given, text)
-more_part gives more wider form (part.Without snapshots) path output output' (gone, list, lines, given, text) =
-    (gone, list, lines, more_kept gives more wider gone path lines given, text)
+more_part gives more wider form (part.Only snapshots) path output output' (lines, given, text) =
+    (lines, (given.0, given.1, more_let_go gives more wider given.0 path lines given.2), text)
+more_part gives more wider form (part.Without snapshots) path output output' (lines, given, text) =
+    (lines, (given.0, given.1, more_kept gives more wider given.0 path lines given.2), text)

@@ -1,6 +1,6 @@
 -- The lines of the files that a table reaches without some of its snapshots, and of those that these alone reach, of
 -- bytes that reads gave.
-use Rattle.std.specs.Prelude.{◌≡◌, ℕ, ℤ, List, [], ◌++◌, codes, Option, Some, Ok}
+use Rattle.std.specs.Prelude.{◌≡◌, Bool, true, false, ℕ, ℤ, List, [], ◌++◌, codes, Option, Some, Ok}
 use Rattle.ice_desk.specs.Given.{Giving}
 use Rattle.icescan_forms.specs.declared.format.Format.{Format}
 use Rattle.icescan_forms.specs.declared.part.Part.{Part}
@@ -54,22 +54,20 @@ module _ (gives : Giving) (gone : List ℤ) (path : List ℕ) where
     pub says : metadata_of bytes ≡ Ok metadata
     pub are : AreLinesLetGo metadata lines
 
-module _ (gives : Giving) (form : Format) where
-  -- What was written are such lines in a form. A text lists the snapshots that go.
-  abbrev pub WroteAll : List ℕ → Option (List ℕ) → Option (List ℕ) → Type 0
-  WroteAll path output output' =
-      (lines : List (List ℕ)) × AreLinesGivenAt gives path lines × Appends output output' (lines_in form lines)
+-- the lines of the part that is asked for of what the metadata at a path reaches; a text lists the snapshots that go
+abbrev pub ArePartLines : Giving → Part → List ℕ → List (List ℕ) → Type 0
+ArePartLines gives part.All path lines = AreLinesGivenAt gives path lines
+ArePartLines gives (part.Only snapshots) path lines =
+    (gone : List ℤ) × (listed gone ≡ codes "," ++ snapshots) × AreLinesLetGoAt gives gone path lines
+ArePartLines gives (part.Without snapshots) path lines =
+    (gone : List ℤ) × (listed gone ≡ codes "," ++ snapshots) × AreLinesKeptAt gives gone path lines
 
-  abbrev pub WroteKept : List ℕ → List ℕ → Option (List ℕ) → Option (List ℕ) → Type 0
-  WroteKept snapshots path output output' = (gone : List ℤ) × (listed gone ≡ codes "," ++ snapshots)
-      × (lines : List (List ℕ)) × AreLinesKeptAt gives gone path lines × Appends output output' (lines_in form lines)
+-- what was written are such lines in a form
+abbrev pub WrotePart : Giving → Format → Part → List ℕ → Option (List ℕ) → Option (List ℕ) → Type 0
+WrotePart gives form part path output output' =
+    (lines : List (List ℕ)) × ArePartLines gives part path lines × Appends output output' (lines_in form lines)
 
-  abbrev pub WroteLetGo : List ℕ → List ℕ → Option (List ℕ) → Option (List ℕ) → Type 0
-  WroteLetGo snapshots path output output' = (gone : List ℤ) × (listed gone ≡ codes "," ++ snapshots)
-      × (lines : List (List ℕ)) × AreLinesLetGoAt gives gone path lines × Appends output output' (lines_in form lines)
-
-  -- the part that is asked for of what the metadata at a path reaches
-  abbrev pub WrotePart : Part → List ℕ → Option (List ℕ) → Option (List ℕ) → Type 0
-  WrotePart part.All path output output' = WroteAll path output output'
-  WrotePart (part.Only snapshots) path output output' = WroteLetGo snapshots path output output'
-  WrotePart (part.Without snapshots) path output output' = WroteKept snapshots path output output'
+-- some snapshots alone, or what is reached without them
+abbrev pub part_by : Bool → List ℕ → Part
+part_by true snapshots = part.Only snapshots
+part_by false snapshots = part.Without snapshots

@@ -1,12 +1,11 @@
 //! Ids of snapshots in a text, with commas between them.
 
-ghost use Rattle.std.specs.Prelude.{◌≡◌, ◌≢◌, ◌++◌, IfOk, IsErrOf, IsTrue, OnOk, codes};
+ghost use Rattle.std.specs.Prelude.{◌≡◌, ◌≢◌, ◌++◌, IfOk, IsErrOf, IsTrue, codes};
 ghost use Rattle.icescan_parts.specs.Ids.{listed};
-ghost use Rattle.icescan_print.specs.Pieces.{named_signed};
 ghost use Rattle.icescan_text.specs.declared.fault.RunFault.{RunFault};
 
 use contract_words::Text;
-use icescan_print::put_named_long;
+use icescan_forms::push_long;
 use icescan_text::RunFault;
 use std::alloc::{AllocError, Global};
 
@@ -37,20 +36,13 @@ fn numbers_in(alloc: Global, text: &str) -> Result<Vec<i64>, RunFault>
     Ok(ids)
 }
 
-/// Puts an id last, behind a comma.
-fn put_id(text: &mut Vec<u8>, id: i64) -> Result<(), AllocError>
-    ensures { OnOk result (text.new.items ≡ text.old.items ++ named_signed (codes ",") id) }
-{
-    put_named_long(text, b",", id).map_err(|_| AllocError)
-}
-
 /// Ids, each behind a comma.
 fn listed(alloc: Global, ids: &[i64]) -> Result<Vec<u8>, AllocError>
     ensures { IfOk result (λ text. text.items ≡ listed ids.now) }
 {
     let mut text = Vec::new(alloc);
     'ids: for id in ids {
-        put_id(&mut text, *id)?;
+        push_long(&mut text, b",", *id)?;
     }
     Ok(text)
 }

@@ -1,13 +1,13 @@
 //! The files that the metadata names itself, but for statistics of snapshots that go.
 
-ghost use Rattle.std.specs.Prelude.{◌≡◌, Some, IfOk, IsErrOf, OnOk, codes};
+ghost use Rattle.std.specs.Prelude.{◌≡◌, Some, IfOk, IsErrOf, OnOk};
 ghost use Rattle.serde_json.specs.View.{items_view, view};
 ghost use Rattle.icescan_parts.specs.Gone.{item_behind, items_kept, names_gone, own_kept, snapshot_in, statistics_kept};
 ghost use Rattle.icescan_text.specs.declared.fault.RunFault.{RunFault};
 
 use crate::snapshots::is_gone;
 use contract_words::Items;
-use icescan_reachable::{FileKind, path_in, put_line, put_named, unnamed};
+use icescan_reachable::{FileKind, logged_in, path_in, put_line, unnamed};
 use icescan_text::RunFault;
 use serde_json::Value;
 use std::alloc::Global;
@@ -94,17 +94,7 @@ pub fn own_kept(
     ensures own { IfOk result (λ lines. own_kept gone.now path.now (view metadata.now) ≡ Some lines.items) }
     ensures write { IsErrOf result RunFault.Write → ⊥ }
 {
-    let kind = FileKind::Metadata;
-    let mut lines = Vec::new(alloc);
-    put_line(&mut lines, alloc, kind, path)?;
-    put_named(
-        &mut lines,
-        alloc,
-        metadata,
-        "metadata-log",
-        "metadata-file",
-        kind,
-    )?;
+    let mut lines = logged_in(alloc, path, metadata)?;
     put_statistics(&mut lines, alloc, gone, metadata, "statistics")?;
     put_statistics(&mut lines, alloc, gone, metadata, "partition-statistics")?;
     Ok(lines)

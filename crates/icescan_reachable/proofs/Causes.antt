@@ -60,30 +60,26 @@ of_lacking snapshots i snapshot lt at fault (inr (is, none)) =
     inr (is, (snapshot, among snapshots i snapshot lt at, none))
 
 -- the lines of what metadata names itself, step by step
-pub own_is : (path : List ℕ) (metadata : Data) (first logged counted : List (List ℕ)) (all : Option (List (List ℕ)))
-    → first ≡ line kind.Metadata path ∷ []
-    → named_behind (codes "metadata-log") (codes "metadata-file") kind.Metadata metadata first ≡ Some logged
+pub own_is : (path : List ℕ) (metadata : Data) (logged counted : List (List ℕ)) (all : Option (List (List ℕ)))
+    → logged_in path metadata ≡ Some logged
     → named_behind (codes "statistics") (codes "statistics-path") kind.Statistics metadata logged ≡ Some counted
     → named_behind (codes "partition-statistics") (codes "statistics-path") kind.Statistics metadata counted ≡ all
     → own_lines path metadata ≡ all
 unfolding own_lines
-own_is path metadata first logged counted all is in_log in_statistics in_partitions =
-    let log = named_behind (codes "metadata-log") (codes "metadata-file") kind.Metadata metadata in
+own_is path metadata logged counted all in_log in_statistics in_partitions =
     let s = named_behind (codes "statistics") (codes "statistics-path") kind.Statistics metadata in
     let p = named_behind (codes "partition-statistics") (codes "statistics-path") kind.Statistics metadata in
-    let told : logged_in path metadata ≡ Some logged = sym (ap log is) ∙ in_log in
-    ap (λ (o : Option (List (List ℕ))). option_and_then p (option_and_then s o)) told
+    ap (λ (o : Option (List (List ℕ))). option_and_then p (option_and_then s o)) in_log
     ∙ ap (λ (o : Option (List (List ℕ))). option_and_then p o) in_statistics ∙ in_partitions
 
-pub for_own : (path : List ℕ) (metadata : Data) (first logged counted : List (List ℕ)) (fault : RunFault)
-    → first ≡ line kind.Metadata path ∷ []
-    → named_behind (codes "metadata-log") (codes "metadata-file") kind.Metadata metadata first ≡ Some logged
+pub for_own : (path : List ℕ) (metadata : Data) (logged counted : List (List ℕ)) (fault : RunFault)
+    → logged_in path metadata ≡ Some logged
     → named_behind (codes "statistics") (codes "statistics-path") kind.Statistics metadata logged ≡ Some counted
     → IsFor unnamed (named_behind (codes "partition-statistics") (codes "statistics-path") kind.Statistics metadata
     counted ≡ None) fault → IsFor unnamed (own_lines path metadata ≡ None) fault
-for_own path metadata first logged counted fault is in_log in_statistics (inl memory) = inl memory
-for_own path metadata first logged counted fault is in_log in_statistics (inr (so, none)) =
-    inr (so, own_is path metadata first logged counted None is in_log in_statistics none)
+for_own path metadata logged counted fault in_log in_statistics (inl memory) = inl memory
+for_own path metadata logged counted fault in_log in_statistics (inr (so, none)) =
+    inr (so, own_is path metadata logged counted None in_log in_statistics none)
 
 module _ (gives : Giving) (may_fail : List ℕ → Type 0) where
   -- the manifest list of one of them is refused

@@ -2,7 +2,7 @@
 
 ghost use Rattle.std.specs.Prelude.{◌≡◌, ◌≢◌, Some, None, IfErr, IfOk, IsErrOf, OnOk, codes};
 ghost use Rattle.serde_json.specs.View.{items_view, view};
-ghost use Rattle.icescan_reachable.specs.Named.{items_behind, named_behind, own_lines, path_in};
+ghost use Rattle.icescan_reachable.specs.Named.{items_behind, logged_in, named_behind, own_lines, path_in};
 ghost use Rattle.icescan_reachable.specs.Refused.{IsFor, unnamed};
 
 use crate::kind::{FileKind, put_line};
@@ -57,7 +57,7 @@ fn put_items(
 }
 
 /// Puts last the lines of the files that the items of an array of the metadata name, where it has that array.
-pub fn put_named(
+fn put_named(
     lines: &mut Vec<Items<u8>>,
     alloc: Global,
     metadata: &Value,
@@ -95,12 +95,11 @@ fn put_statistics(
     put_named(lines, alloc, metadata, array, "statistics-path", kind)
 }
 
-/// The lines of the metadata at a path and of the files that it names itself.
-#[tactic(auto, unfolding(crate::specs::Named::own_lines))]
-pub fn own_lines(alloc: Global, path: &[u8], metadata: &Value) -> Result<Vec<Items<u8>>, RunFault>
-    ensures own { IfOk result (λ lines. own_lines path.now (view metadata.now) ≡ Some lines.items) }
+/// The lines of the metadata at a path and of the files that its log names.
+pub fn logged_in(alloc: Global, path: &[u8], metadata: &Value) -> Result<Vec<Items<u8>>, RunFault>
+    ensures own { IfOk result (λ lines. logged_in path.now (view metadata.now) ≡ Some lines.items) }
     ensures write { IsErrOf result RunFault.Write → ⊥ }
-    ensures causes { IfErr result (IsFor unnamed (own_lines path.now (view metadata.now) ≡ None)) }
+    ensures causes { IfErr result (IsFor unnamed (logged_in path.now (view metadata.now) ≡ None)) }
 {
     let kind = FileKind::Metadata;
     let mut lines = Vec::new(alloc);
@@ -113,6 +112,17 @@ pub fn own_lines(alloc: Global, path: &[u8], metadata: &Value) -> Result<Vec<Ite
         "metadata-file",
         kind,
     )?;
+    Ok(lines)
+}
+
+/// The lines of the metadata at a path and of the files that it names itself.
+#[tactic(auto, unfolding(crate::specs::Named::own_lines))]
+pub fn own_lines(alloc: Global, path: &[u8], metadata: &Value) -> Result<Vec<Items<u8>>, RunFault>
+    ensures own { IfOk result (λ lines. own_lines path.now (view metadata.now) ≡ Some lines.items) }
+    ensures write { IsErrOf result RunFault.Write → ⊥ }
+    ensures causes { IfErr result (IsFor unnamed (own_lines path.now (view metadata.now) ≡ None)) }
+{
+    let mut lines = logged_in(alloc, path, metadata)?;
     put_statistics(&mut lines, alloc, metadata, "statistics")?;
     put_statistics(&mut lines, alloc, metadata, "partition-statistics")?;
     Ok(lines)

@@ -1,7 +1,7 @@
 -- The plan by workers: how many manifests are wanted at most, and why the plan may end the run.
-use Rattle.std.proofs.Common.{◌≡◌, ◌≢◌, ◌⊎◌, inl, inr, ℕ, suc, ◌<◌, ◌≤◌, true, false, cond, List, [], ◌∷◌, filter}
+use Rattle.std.proofs.Common.{◌≡◌, ◌≢◌, ℕ, suc, ◌≤◌, true, false, cond, List, [], ◌∷◌, filter}
 use Rattle.std.proofs.Common.{length, arith, refl, sym, ap, subst, ◌∙◌}
-use Rattle.std.specs.Prelude.{Result, Ok, Err}
+use Rattle.std.specs.Prelude.{Ok, Err}
 use Rattle.std.proofs.lemmas.List.Sums.{count_by-le-length, length-filter}
 use Rattle.contract_words.specs.Sorting.{put}
 use Rattle.ice_desk.specs.declared.fault.PlanFault.{PlanFault}
@@ -20,7 +20,6 @@ use Rattle.ice_state.specs.Lines.{OwnedLine}
 use Rattle.ice_state.specs.Pruning.{pruner_of}
 use Rattle.ice_state.specs.Scans.{Scanned, by_row_path, row_before, scan_of}
 use Rattle.ice_state.proofs.Scans.{scan_made}
-use Rattle.icescan_text.specs.declared.fault.RunFault.{RunFault}
 use Rattle.icescan_text.specs.declared.fault.RunFault.TheVariants as run
 use Rattle.icescan_text.specs.Faults.{of_plan, of_wanted}
 use Rattle.icescan_text.specs.Reads.{MayEnd}

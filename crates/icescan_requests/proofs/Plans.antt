@@ -35,8 +35,8 @@ use Rattle.icescan_text.specs.Faults.{of_finish, of_scan, of_wanted}
 use Rattle.icescan_text.specs.Reads.{MayEnd, all_present, as_run, file_in, rows_at, rows_in}
 use Rattle.icescan_requests.specs.ListPlans.{wanted_of}
 use Rattle.icescan_requests.specs.Plans.{Answers, Ending, TellsTheTruth, TellsTheTruthAt, WritesAPlan, answer_at}
-use Rattle.icescan_requests.specs.Plans.{answer_by, manifests, manifests_of, over_all_rows, over_wanted_rows, reads}
-use Rattle.icescan_requests.specs.Plans.{reads_at, reads_behind, reads_of, rows_plan, scan_in, selected_rows}
+use Rattle.icescan_requests.specs.Plans.{answer_by, list_of, manifests, manifests_of, over_all_rows, over_wanted_rows}
+use Rattle.icescan_requests.specs.Plans.{reads, reads_at, reads_behind, reads_of, rows_plan, scan_in, selected_rows}
 use Rattle.icescan_requests.specs.Selections.{IsOfRequest, selected}
 use Rattle.icescan_text.specs.Workers.{by_workers}
 use Rattle.icescan_text.proofs.Steps.{fails_later, finish_ends, first_ends, has_each, may_write, more_reads, only_first}
@@ -60,6 +60,7 @@ request_ends read r w (run.Scan f) is h = absurd is
 request_ends read r w (run.Finish f) is h = absurd is
 request_ends read r w (run.Drill f) is h = absurd is
 request_ends read r w (run.Locate f) is h = absurd is
+request_ends read r w (run.State path flaw) is h = absurd is
 request_ends read r w (run.Lineage f) is h = absurd is
 request_ends read r w (run.Change f) is h = absurd is
 request_ends read r w (run.Prepare f) is h = absurd is
@@ -147,15 +148,28 @@ module _ (f : List ℕ → Type 0) (w : Type 0) (world : World) (specs : List Sp
 
 -- ---- the rows that a request selects
 
+list_first : (f : List ℕ → Type 0) (world : World) (found : Result Selection RunFault) (p : List ℕ)
+    → EndsAt world f (list_of found) p → EndsAt world f (reads_of world found) p
+list_first f world (Ok s) p h = only_first world f s.list (manifests_of s (rows_at world s.list)) p h
+list_first f world (Err e) p h = absurd h
+
 module _ (f : List ℕ → Type 0) (world : World) (metadata : List ℕ) (request : Request) where
   abbrev stops_at : List ℕ → Type 0
   stops_at = EndsAt world f (reads world metadata request)
 
+  abbrev stops_listed : List ℕ → Type 0
+  stops_listed = EndsAt world f (list_of (selected metadata request))
+
+  -- the list is read first
+  pub reads_list : (p : List ℕ) → stops_listed p → stops_at p
+  unfolding reads
+  reads_list p h = list_first f world (selected metadata request) p h
+
   pub not_asked : (e : RunFault) → IsOfRequest e → (e ≢ run.Memory → selected metadata request ≡ Err e)
-      → MayEnd (selected_rows world metadata request) stops_at ⊥ e
+      → MayEnd (selected_rows world metadata request) stops_listed ⊥ e
   unfolding selected_rows
   not_asked e own h =
-      first_ends stops_at ⊥ (λ _. ⊥) (selected metadata request) _ e (λ p m. absurd m)
+      first_ends stops_listed ⊥ (λ _. ⊥) (selected metadata request) _ e (λ p m. absurd m)
       (request_ends (selected metadata request) (λ _. ⊥) ⊥ e own h)
 
   module _ (selection : Selection) (is : selected metadata request ≡ Ok selection) where
@@ -163,17 +177,13 @@ module _ (f : List ℕ → Type 0) (world : World) (metadata : List ℕ) (reques
     unfolding reads
     reads_are = ap (reads_of world) is
 
-    reads_list : (p : List ℕ) → EndsAt world f (selection.list ∷ []) p → stops_at p
-    reads_list p h =
-        subst (λ paths. EndsAt world f paths p) (sym reads_are)
-        (only_first world f selection.list (manifests_of selection (rows_at world selection.list)) p h)
-
     pub no_list : (e : RunFault) → MayEnd (rows_at world selection.list) (EndsAt world f (selection.list ∷ [])) ⊥ e
-        → MayEnd (selected_rows world metadata request) stops_at ⊥ e
+        → MayEnd (selected_rows world metadata request) stops_listed ⊥ e
     unfolding selected_rows
     no_list e h =
-        then_ends stops_at ⊥ (selected metadata request) _ selection e is
-        (first_ends stops_at ⊥ (EndsAt world f (selection.list ∷ [])) (rows_at world selection.list) _ e reads_list h)
+        then_ends stops_listed ⊥ (selected metadata request) _ selection e is
+        (first_ends stops_listed ⊥ (EndsAt world f (selection.list ∷ [])) (rows_at world selection.list) _ e
+        (λ p m. subst (λ found. EndsAt world f (list_of found) p) (sym is) m) h)
 
     module _ (rows : List Row) (has : rows_at world selection.list ≡ Ok rows) where
       pub rows_selected : selected_rows world metadata request
@@ -210,13 +220,15 @@ are_found world metadata request found h =
 
 -- where the selected rows are not found, there is no plan
 pub no_rows_found : (f : List ℕ → Type 0) (world : World) (metadata : List ℕ) (request : Request) (e : RunFault)
-    → MayEnd (selected_rows world metadata request) (EndsAt world f (reads world metadata request)) ⊥ e
+    → MayEnd (selected_rows world metadata request) (EndsAt world f (list_of (selected metadata request))) ⊥ e
     → MayEnd (answer_by over_wanted_rows world metadata request) (EndsAt world f (reads world metadata request)) ⊥ e
 unfolding answer_by selected_rows
 no_rows_found f world metadata request e h =
     two_end (EndsAt world f (reads world metadata request)) (selected metadata request) (λ s. rows_at world s.list)
     (λ s rows. record { rows = rows; specs = s.specs; filter = s.filter })
-    (λ s rows. rows_plan over_wanted_rows world s.specs s.filter.parts rows) e h
+    (λ s rows. rows_plan over_wanted_rows world s.specs s.filter.parts rows) e
+    (more_reads (selected_rows world metadata request) (EndsAt world f (list_of (selected metadata request)))
+    (EndsAt world f (reads world metadata request)) ⊥ e (reads_list f world metadata request) h)
 
 module _ (f : List ℕ → Type 0) (world : World) (metadata : List ℕ) (request : Request) (found : SelectedRows)
     (has : selected_rows world metadata request ≡ Ok found) where

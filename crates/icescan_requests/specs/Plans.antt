@@ -67,6 +67,11 @@ selected_rows world metadata request = do
   rows ← rows_at world selection.list
   Ok (record { rows = rows; specs = selection.specs; filter = selection.filter })
 
+-- the path of the list that was selected
+abbrev pub list_of : Result Selection RunFault → List (List ℕ)
+list_of (Ok selection) = selection.list ∷ []
+list_of (Err fault) = []
+
 -- The plan, or the first refusal: what the request asks can't be asked of the metadata, there is no manifest list, it
 -- can't be read, or its rows have no plan.
 unfoldable pub answer_by : Ending → World → List ℕ → Request → Result (List OwnedLine) RunFault

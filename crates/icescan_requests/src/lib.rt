@@ -12,7 +12,7 @@ mod table_texts;
 
 pub use copies::copied_spec;
 pub use list_plans::{plan_list, run_list_plan};
-pub use planning::plan_rows_by_workers;
+pub use planning::{OpenGate, plan_rows_by_workers};
 pub use selected_rows::{SelectedRows, select_rows};
 pub use selection::{Selection, select};
 pub use show::{run_show, show_file};

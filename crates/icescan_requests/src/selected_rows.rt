@@ -6,7 +6,7 @@ ghost use Rattle.ice_desk.specs.Worlds.{EndsAt, HasAt};
 ghost use Rattle.ice_state.specs.Contents.{World};
 ghost use Rattle.ice_state.specs.Scans.{scan_of};
 ghost use Rattle.icescan_requests.specs.GivenPlans.{AreSelectedOfGiven};
-ghost use Rattle.icescan_requests.specs.Plans.{reads, selected_rows};
+ghost use Rattle.icescan_requests.specs.Plans.{list_of, selected_rows};
 ghost use Rattle.icescan_requests.specs.Selections.{selected};
 ghost use Rattle.icescan_requests.specs.declared.selection.Selection.{Selection};
 ghost use Rattle.icescan_text.specs.Reads.{MayEnd};
@@ -48,7 +48,7 @@ impl SelectedRows {
 
 /// The rows of the manifest list that a request selects, of the table whose metadata these are the bytes of. The
 /// refusal is that of `select`; then `Absent` where the list is not there, `Device` where reading it failed, and `List`
-/// where it is at fault; or `Memory`.
+/// where it is at fault; or `Memory`. Nothing but the list is read.
 pub fn select_rows<F: Files>(
     alloc: Global,
     files: &F,
@@ -60,7 +60,7 @@ pub fn select_rows<F: Files>(
         IfOk result (λ found. selected_rows world metadata.now request.now ≡ Ok found) }
     ensures refused { (world : World) → F.world files.now ≡ Some world →
         IfErr result (MayEnd (selected_rows world metadata.now request.now)
-        (EndsAt world (F.may_fail files.now) (reads world metadata.now request.now)) ⊥) }
+        (EndsAt world (F.may_fail files.now) (list_of (selected metadata.now request.now))) ⊥) }
 
     // Over all files.
     ensures selection { IfOk result (λ found. (selection : Selection)

@@ -2,4 +2,4 @@ pub mod MoreGiven
 pub mod Rising
 mod SameRows
 pub mod Searches
-mod Selecting
+pub mod Selecting

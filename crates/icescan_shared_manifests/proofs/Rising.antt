@@ -3,7 +3,6 @@ use Rattle.std.proofs.Common.{◌≡◌, ℕ, List, ap}
 use Rattle.std.specs.Prelude.{Result, Ok, Err}
 use Rattle.std.specs.List.Sorted.{IsStrictlySortedBy}
 use Rattle.contract_words.specs.Outcome.{◌>>=◌}
-use Rattle.ice_manifest_fields.specs.declared.fault.ListFault.{ListFault}
 use Rattle.ice_manifest_fields.specs.Naming.{contained, in_list, told}
 use Rattle.ice_manifest_fields.specs.Schemas.{fields_in, row_fields}
 use Rattle.ice_manifest_reading.proofs.Rising.{strictly}

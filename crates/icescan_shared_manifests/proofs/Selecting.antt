@@ -1,55 +1,42 @@
 -- The rows of two lists, and why reading them may end the run.
-use Rattle.std.proofs.Common.{◌≡◌, ◌≢◌, ◌≤◌, ℕ, List, [], ◌∷◌, ◌++◌, filter, length, refl, sym, ap, subst, ◌∙◌}
+use Rattle.std.proofs.Common.{◌≡◌, ◌≤◌, ℕ, List, [], ◌∷◌, ◌++◌, filter, length, refl, sym, subst}
 use Rattle.std.proofs.Common.{Bool, true, false, not, arith, cond, inl, inr}
-use Rattle.std.specs.Prelude.{Result, Ok, Err}
-use Rattle.contract_words.specs.Outcome.{◌>>=◌}
+use Rattle.std.specs.Prelude.{Ok}
 use Rattle.ice_desk.specs.Worlds.{EndsAt}
 use Rattle.ice_manifest_reading.specs.declared.row.Row.{Row}
 use Rattle.ice_state.specs.Contents.{World}
-use Rattle.icescan_requests.proofs.Plans.{list_there, request_ends}
-use Rattle.icescan_requests.specs.Plans.{selected_rows}
-use Rattle.icescan_requests.specs.Selections.{IsOfRequest, selected}
+use Rattle.icescan_requests.proofs.Plans.{list_there}
+use Rattle.icescan_requests.specs.Plans.{list_of, selected_rows}
+use Rattle.icescan_requests.specs.Selections.{selected}
 use Rattle.icescan_requests.specs.declared.selected_rows.SelectedRows.{SelectedRows}
-use Rattle.icescan_requests.specs.declared.selection.Selection.{Selection}
-use Rattle.icescan_shared_manifests.specs.Both.{both_lists, both_rows, leaves_out, list_of, planned_of}
+use Rattle.icescan_shared_manifests.specs.Both.{both_lists, both_rows, leaves_out, planned_of}
 use Rattle.icescan_shared_manifests.specs.Shared.{is_shared}
 use Rattle.icescan_shared_manifests.specs.declared.both_rows.BothRows.{BothRows}
 use Rattle.icescan_text.proofs.Steps.{fails_later, first_ends, step, then_ends}
 use Rattle.icescan_text.specs.Reads.{MayEnd, rows_at}
 use Rattle.icescan_text.specs.declared.fault.RunFault.{RunFault}
-use Rattle.icescan_text.specs.declared.fault.RunFault.TheVariants as run
 use Rattle.icescan_text.specs.declared.request.ChangesRequest.{ChangesRequest}
 use Rattle.icescan_text.specs.declared.request.Request.{Request}
 
--- ---- one list
-
-module _ (f : List ℕ → Type 0) (world : World) (metadata : List ℕ) (request : Request) where
-  abbrev stops : List ℕ → Type 0
-  stops = EndsAt world f (list_of (selected metadata request))
-
-  pub not_asked : (e : RunFault) → IsOfRequest e → (e ≢ run.Memory → selected metadata request ≡ Err e)
-      → MayEnd (selected_rows world metadata request) stops ⊥ e
-  unfolding selected_rows
-  not_asked e own h =
-      first_ends stops ⊥ (λ _. ⊥) (selected metadata request) _ e (λ p m. absurd m)
-      (request_ends (selected metadata request) (λ _. ⊥) ⊥ e own h)
-
-  pub no_list : (s : Selection) → selected metadata request ≡ Ok s → (e : RunFault)
-      → MayEnd (rows_at world s.list) (EndsAt world f (s.list ∷ [])) ⊥ e
-      → MayEnd (selected_rows world metadata request) stops ⊥ e
-  unfolding selected_rows
-  no_list s is e h =
-      then_ends stops ⊥ (selected metadata request) _ s e is
-      (first_ends stops ⊥ (EndsAt world f (s.list ∷ [])) (rows_at world s.list) _ e
-      (λ p m. subst (λ found. EndsAt world f (list_of found) p) (sym is) m) h)
-
 -- ---- both
 
-ends_first : (world : World) (f : List ℕ → Type 0) (xs ys : List (List ℕ)) (p : List ℕ) → EndsAt world f xs p
+pub ends_first : (world : World) (f : List ℕ → Type 0) (xs ys : List (List ℕ)) (p : List ℕ) → EndsAt world f xs p
     → EndsAt world f (xs ++ ys) p
 ends_first world f [] ys p h = absurd h
 ends_first world f (x ∷ xs) ys p (inl h) = inl h
 ends_first world f (x ∷ xs) ys p (inr h) = inr (h.0, ends_first world f xs ys p h.1)
+
+-- where a list's rows were selected, the list was there
+pub behind_list : (world : World) (f : List ℕ → Type 0) (rest : List (List ℕ)) (p : List ℕ) → EndsAt world f rest p
+    → (metadata : List ℕ) (request : Request) (found : SelectedRows)
+    → selected_rows world metadata request ≡ Ok found → EndsAt world f (list_of (selected metadata request) ++ rest) p
+unfolding selected_rows
+behind_list world f rest p ends metadata request found h =
+    let asked = step (selected metadata request) _ found h in
+    let rows = step (rows_at world asked.0.list) _ found asked.2 in
+    let bytes = list_there world asked.0.list rows.0 rows.1 in
+    subst (λ s. EndsAt world f (list_of s ++ rest) p) (sym asked.1)
+    (fails_later world f asked.0.list bytes.0 rest p bytes.1 ends)
 
 module _ (f : List ℕ → Type 0) (world : World) (metadata : List ℕ) (request : ChangesRequest) where
   abbrev both_stop : List ℕ → Type 0
@@ -65,17 +52,6 @@ module _ (f : List ℕ → Type 0) (world : World) (metadata : List ℕ) (reques
       first_ends both_stop ⊥ (EndsAt world f mine) (selected_rows world metadata request.earlier) _ e
       (λ p m. ends_first world f mine (list_of (selected metadata request.later)) p m) h
 
-  -- the list of rows that were selected was there
-  behind : (found : SelectedRows) → selected_rows world metadata request.earlier ≡ Ok found → (p : List ℕ)
-      → EndsAt world f (list_of (selected metadata request.later)) p → both_stop p
-  unfolding selected_rows
-  behind found h p m =
-      let asked = step (selected metadata request.earlier) _ found h in
-      let rows = step (rows_at world asked.0.list) _ found asked.2 in
-      let bytes = list_there world asked.0.list rows.0 rows.1 in
-      subst (λ s. EndsAt world f (list_of s ++ list_of (selected metadata request.later)) p) (sym asked.1)
-      (fails_later world f asked.0.list bytes.0 (list_of (selected metadata request.later)) p bytes.1 m)
-
   module _ (earlier : SelectedRows) (was : selected_rows world metadata request.earlier ≡ Ok earlier) where
     pub no_later : (e : RunFault)
         → MayEnd (selected_rows world metadata request.later)
@@ -85,7 +61,9 @@ module _ (f : List ℕ → Type 0) (world : World) (metadata : List ℕ) (reques
     no_later e h =
         then_ends both_stop ⊥ (selected_rows world metadata request.earlier) _ earlier e was
         (first_ends both_stop ⊥ (EndsAt world f (list_of (selected metadata request.later)))
-        (selected_rows world metadata request.later) _ e (behind earlier was) h)
+        (selected_rows world metadata request.later) _ e
+        (λ p ends. behind_list world f (list_of (selected metadata request.later)) p ends metadata request.earlier earlier
+        was) h)
 
     pub both_there : (later : SelectedRows) → selected_rows world metadata request.later ≡ Ok later
         → both_rows world metadata request ≡ Ok (planned_of (leaves_out request earlier later) earlier later)

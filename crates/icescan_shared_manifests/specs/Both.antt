@@ -1,12 +1,11 @@
 -- The rows of two snapshots that are planned to tell the changes from one to the other.
-use Rattle.std.specs.Prelude.{◌≡◌, Bool, true, false, ◌&&◌, ℕ, List, [], ◌∷◌, ◌++◌, is_none, Result, Ok, Err}
+use Rattle.std.specs.Prelude.{Bool, true, false, ◌&&◌, ℕ, List, ◌++◌, is_none, Result, Ok}
 use Rattle.contract_words.specs.Outcome.{◌>>=◌}
 use Rattle.ice_manifest_reading.specs.declared.row.Row.{Row}
 use Rattle.ice_state.specs.Contents.{World}
-use Rattle.icescan_requests.specs.Plans.{selected_rows}
+use Rattle.icescan_requests.specs.Plans.{list_of, selected_rows}
 use Rattle.icescan_requests.specs.Selections.{selected}
 use Rattle.icescan_requests.specs.declared.selected_rows.SelectedRows.{SelectedRows}
-use Rattle.icescan_requests.specs.declared.selection.Selection.{Selection}
 use Rattle.icescan_text.specs.declared.fault.RunFault.{RunFault}
 use Rattle.icescan_text.specs.declared.request.ChangesRequest.{ChangesRequest}
 use Rattle.icescan_shared_manifests.specs.Shared.{have_same_deletes, unshared}
@@ -38,11 +37,6 @@ both_rows world metadata request = do
   earlier ← selected_rows world metadata request.earlier
   later ← selected_rows world metadata request.later
   Ok (planned_of (leaves_out request earlier later) earlier later)
-
--- the path of the list that was selected
-abbrev pub list_of : Result Selection RunFault → List (List ℕ)
-list_of (Ok selection) = selection.list ∷ []
-list_of (Err fault) = []
 
 -- the paths of both lists, in the order in which they are read
 abbrev pub both_lists : List ℕ → ChangesRequest → List (List ℕ)

@@ -1,6 +1,6 @@
 -- Which manifests of two snapshots have to be read to tell the changes between their plans: not those of data files
 -- that both share, where both have the same manifests of delete files.
-use Rattle.std.specs.Prelude.{Bool, true, false, ◌&&◌, ◌||◌, not, List, filter}
+use Rattle.std.specs.Prelude.{Bool, ◌&&◌, ◌||◌, not, List, filter}
 use Rattle.std.specs.List.{list_all, list_any}
 use Rattle.ice_manifest_reading.specs.Lists.{same_content, same_row}
 use Rattle.ice_manifest_reading.specs.declared.row.ManifestContent.TheVariants.{Data}

@@ -5,10 +5,7 @@ ghost use Rattle.std.specs.List.Sorted.{IsStrictlySortedBy};
 ghost use Rattle.ice_desk.specs.Worlds.{EndsAt, HasAt};
 ghost use Rattle.ice_manifest_reading.specs.Lists.{path_order};
 ghost use Rattle.ice_state.specs.Contents.{World};
-ghost use Rattle.icescan_requests.specs.GivenPlans.{AreSelectedOfGiven};
-ghost use Rattle.icescan_requests.specs.Plans.{selected_rows};
-ghost use Rattle.icescan_requests.specs.Selections.{selected};
-ghost use Rattle.icescan_shared_manifests.specs.Both.{both_lists, both_rows, is_unfiltered, list_of, planned_of};
+ghost use Rattle.icescan_shared_manifests.specs.Both.{both_lists, both_rows, is_unfiltered, planned_of};
 ghost use Rattle.icescan_shared_manifests.specs.GivenBoth.{AreBothOfGiven};
 ghost use Rattle.icescan_shared_manifests.specs.Shared.{have_same_deletes, unshared};
 ghost use Rattle.icescan_text.specs.Reads.{MayEnd};
@@ -17,8 +14,8 @@ use crate::shared::{have_same_deletes, unshared};
 use contract_words::Items;
 use ice_desk::Files;
 use ice_manifest_reading::Row;
-use icescan_requests::{SelectedRows, Selection, select};
-use icescan_text::{ChangesRequest, Request, RunFault, read_rows};
+use icescan_requests::{SelectedRows, select_rows};
+use icescan_text::{ChangesRequest, RunFault};
 use std::alloc::{AllocError, Global};
 
 /// The rows that are planned of two snapshots.
@@ -28,41 +25,6 @@ pub struct BothRows {
     pub earlier: SelectedRows,
     /// Those of the later one.
     pub later: SelectedRows,
-}
-
-/// The rows of the manifest list that a request selects. Nothing but the list is read.
-fn listed_rows<F: Files>(
-    alloc: Global,
-    files: &F,
-    metadata: &[u8],
-    request: &Request,
-) -> Result<SelectedRows, RunFault>
-    // Over files that tell their world.
-    ensures found { (world : World) → F.world files.now ≡ Some world →
-        IfOk result (λ found. selected_rows world metadata.now request.now ≡ Ok found) }
-    ensures refused { (world : World) → F.world files.now ≡ Some world →
-        IfErr result (MayEnd (selected_rows world metadata.now request.now)
-        (EndsAt world (F.may_fail files.now) (list_of (selected metadata.now request.now))) ⊥) }
-
-    // Over all files.
-    ensures rises { IfOk result (λ found. IsStrictlySortedBy path_order found.rows) }
-    ensures few { IfOk result (λ found. length found.rows ≤ 65536) }
-    ensures absent { (path : List ℕ) → IsErrOf result (RunFault.Absent path) → HasAt (F.world files.now) path None }
-    ensures device { (path : List ℕ) → IsErrOf result (RunFault.Device path) → F.may_fail files.now path }
-    ensures write { IsErrOf result RunFault.Write → ⊥ }
-    ensures given { IfOk result (AreSelectedOfGiven (F.gives files.now) metadata.now request.now) }
-{
-    let Selection {
-        list,
-        specs,
-        filter,
-    } = select(alloc, metadata, request)?;
-    let rows = read_rows(alloc, files, list.as_str())?;
-    Ok(SelectedRows {
-        rows: Items::from_vec(rows),
-        specs,
-        filter,
-    })
 }
 
 /// Whether neither request has a filter.
@@ -149,7 +111,7 @@ pub fn select_both<F: Files>(
     ensures write { IsErrOf result RunFault.Write → ⊥ }
     ensures given { IfOk result (AreBothOfGiven (F.gives files.now) metadata.now request.now) }
 {
-    let earlier = listed_rows(alloc, files, metadata, &request.earlier)?;
-    let later = listed_rows(alloc, files, metadata, &request.later)?;
+    let earlier = select_rows(alloc, files, metadata, &request.earlier)?;
+    let later = select_rows(alloc, files, metadata, &request.later)?;
     Ok(planned(alloc, is_unfiltered(request), earlier, later)?)
 }

@@ -40,6 +40,7 @@ module _ (r : List ℕ → Type 0) (w : Type 0) where
   first_ends s read next (run.Filter f) stops h = ap (λ x. x >>= next) h
   first_ends s read next (run.Drill f) stops h = ap (λ x. x >>= next) h
   first_ends s read next (run.Locate f) stops h = ap (λ x. x >>= next) h
+  first_ends s read next (run.State path flaw) stops h = ap (λ x. x >>= next) h
   first_ends s read next (run.Lineage f) stops h = ap (λ x. x >>= next) h
   first_ends s read next (run.Change f) stops h = ap (λ x. x >>= next) h
   first_ends s read next (run.Prepare f) stops h = ap (λ x. x >>= next) h
@@ -91,6 +92,7 @@ more_reads read r s w (run.Metadata f) more h = h
 more_reads read r s w (run.Filter f) more h = h
 more_reads read r s w (run.Drill f) more h = h
 more_reads read r s w (run.Locate f) more h = h
+more_reads read r s w (run.State path flaw) more h = h
 more_reads read r s w (run.Lineage f) more h = h
 more_reads read r s w (run.Change f) more h = h
 more_reads read r s w (run.Prepare f) more h = h

@@ -24,6 +24,8 @@ use Rattle.icescan_text.specs.declared.drill_fault.DrillFault.{DrillFault}
 use Rattle.icescan_text.specs.declared.drill_fault.DrillFault.TheVariants as drill
 use Rattle.icescan_text.specs.declared.lineage_fault.LineageFault.{LineageFault}
 use Rattle.icescan_text.specs.declared.lineage_fault.LineageFault.TheVariants as lineage
+use Rattle.icescan_text.specs.declared.state_flaw.StateFlaw.{StateFlaw}
+use Rattle.icescan_text.specs.declared.state_flaw.StateFlaw.TheVariants as flaw
 use Rattle.ice_catalog_changes.specs.declared.fault.PrepareFault.{PrepareFault}
 use Rattle.ice_catalog_changes.specs.declared.fault.PrepareFault.TheVariants as prepare
 use Rattle.icescan_text.specs.Changes.{member_name as change_member_name}
@@ -130,6 +132,17 @@ unfoldable pub lineage_text : LineageFault → List ℕ
 lineage_text (lineage.NotAppended id) = named_signed (codes "L1 NotAppended ") id
 lineage_text lineage.NotAncestor = codes "L2 NotAncestor"
 
+-- the path is that of a state's file
+abbrev pub state_flaw_name : StateFlaw → List ℕ
+state_flaw_name flaw.NotAState = codes "Y1 NotAState "
+state_flaw_name flaw.OtherVersion = codes "Y2 OtherVersion "
+state_flaw_name flaw.Damaged = codes "Y3 Damaged "
+state_flaw_name flaw.OtherScan = codes "Y4 OtherScan "
+state_flaw_name flaw.NotOfScan = codes "Y5 NotOfScan "
+
+abbrev pub state_text : List ℕ → StateFlaw → List ℕ
+state_text path flaw = named_path (state_flaw_name flaw) path
+
 unfoldable pub change_text : ChangeFault → List ℕ
 change_text change.NotJson = codes "C1 BadChange -"
 change_text (change.Bad member) = codes "C1 BadChange " ++ change_member_name member
@@ -163,6 +176,7 @@ run_text (run.Filter fault) = filter_text fault
 run_text (run.Drill fault) = drill_fault_text fault
 run_text (run.Locate fault) = newest_text fault
 run_text (run.Lineage fault) = lineage_text fault
+run_text (run.State path flaw) = state_text path flaw
 run_text (run.Change fault) = change_text fault
 run_text (run.Prepare fault) = prepare_text fault
 run_text (run.Conflict path) = named_path (codes "Conflict ") path

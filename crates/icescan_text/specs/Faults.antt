@@ -114,8 +114,8 @@ prepare_wants_memory prepare.Memory = true
 prepare_wants_memory _ = false
 
 -- 1: the table or a commit to it is refused, or a snapshot does not follow another by appends alone; 2: the words, the
--- number of workers, the bundle, the filter or the change file; 3: a read or a write failed, or a folder has no newest
--- metadata that can be read; 4: the place of a commit's metadata is taken; 5: memory ran out
+-- number of workers, the bundle, the filter, the change file or a state; 3: a read or a write failed, or a folder has no
+-- newest metadata that can be read; 4: the place of a commit's metadata is taken; 5: memory ran out
 abbrev pub refused_status : Bool → ℕ
 refused_status wants_memory = if wants_memory then 5 else 1
 
@@ -153,6 +153,7 @@ status_of (run.Device path) = 3
 status_of (run.Drill fault) = drill_status fault
 status_of (run.Locate fault) = newest_status fault
 status_of (run.Lineage fault) = 1
+status_of (run.State path flaw) = 2
 status_of run.Input = 3
 status_of run.Write = 3
 status_of run.Memory = 5

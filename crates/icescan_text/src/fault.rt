@@ -14,6 +14,7 @@ ghost use Rattle.icescan_text.specs.declared.fault.RunFault.TheVariants as run;
 use crate::change::ChangeFault;
 use crate::drill_fault::DrillFault;
 use crate::lineage_fault::LineageFault;
+use crate::state_flaw::StateFlaw;
 use avro_file::AvroFault;
 use avro_schema::SchemaFault;
 use contract_words::Text;
@@ -70,6 +71,9 @@ pub enum RunFault {
     /// A snapshot does not follow another by appends alone.
     #[error("the snapshot does not follow the other by appends alone: {0:?}")]
     Lineage(LineageFault),
+    /// The state in the file at this path is refused.
+    #[error("the state in {} is refused: {:?}", .0.as_str(), .1)]
+    State(Text, StateFlaw),
     /// The change file is refused.
     #[error("the change file is refused: {0:?}")]
     Change(ChangeFault),
@@ -231,14 +235,15 @@ impl From<PlanFault> for RunFault {
 impl RunFault {
     /// The status that the program ends with: 1 where the table or a commit to it is refused, a snapshot does not follow
     /// another by appends alone, or a file of a drill is lost; 2 for the words, the number of workers, the bundle, the
-    /// filter or the change file; 3 where a read or a write failed, or a folder has no newest metadata that can be read;
-    /// 4 where the place of a commit's metadata is taken, or a drill's commit met others too often; 5 where memory ran
-    /// out.
+    /// filter, the change file or a state; 3 where a read or a write failed, or a folder has no newest metadata that can
+    /// be read; 4 where the place of a commit's metadata is taken, or a drill's commit met others too often; 5 where
+    /// memory ran out.
     pub fn status(&self) -> u8
         ensures { result ≡ status_of self.now }
     {
         match self {
             RunFault::Words(_) | RunFault::Bundle(_) | RunFault::Workers => 2,
+            RunFault::State(_, _) => 2,
             RunFault::Input | RunFault::Absent(_) | RunFault::Device(_) | RunFault::Write => 3,
             RunFault::List(fault) => refused_status(list_wants_memory(fault)),
             RunFault::Scan(fault) => refused_status(scan_wants_memory(*fault)),

@@ -1,18 +1,19 @@
 //! The text of a fault: its number, name and arguments.
 
-ghost use Rattle.std.specs.Prelude.{◌++◌};
+ghost use Rattle.std.specs.Prelude.{◌≡◌, ◌++◌};
 ghost use Rattle.ice_meta.specs.Members.{member_name};
 ghost use Rattle.icescan_text.specs.FaultTexts.{schema_text, avro_text, list_text, manifest_text, scan_text};
 ghost use Rattle.icescan_text.specs.FaultTexts.{finish_text};
 ghost use Rattle.icescan_text.specs.FaultTexts.{meta_text, filter_text, change_text, prepare_text, drill_fault_text};
 ghost use Rattle.icescan_text.specs.FaultTexts.{run_text, line_text, fault_text, newest_text};
-ghost use Rattle.icescan_text.specs.FaultTexts.{lineage_text};
+ghost use Rattle.icescan_text.specs.FaultTexts.{lineage_text, state_flaw_name, state_text};
 ghost use Rattle.icescan_print.specs.Written.{Wrote};
 
 use crate::change::ChangeFault;
 use crate::drill_fault::DrillFault;
 use crate::fault::RunFault;
 use crate::lineage_fault::LineageFault;
+use crate::state_flaw::StateFlaw;
 use avro_file::AvroFault;
 use avro_schema::SchemaFault;
 use ice_catalog_changes::PrepareFault;
@@ -64,6 +65,7 @@ fn put_run_fault<S: Sink>(sink: &mut S, fault: &RunFault) -> Result<(), SinkFaul
         RunFault::Drill(fault) => put_drill_fault(sink, fault),
         RunFault::Locate(fault) => put_newest_fault(sink, fault),
         RunFault::Lineage(fault) => put_lineage_fault(sink, *fault),
+        RunFault::State(path, flaw) => put_state_fault(sink, path.as_bytes(), *flaw),
         RunFault::Change(fault) => put_change_fault(sink, *fault),
         RunFault::Prepare(fault) => put_prepare_fault(sink, fault),
         RunFault::Conflict(path) => put_named_path(sink, b"Conflict ", path.as_bytes()),
@@ -97,6 +99,25 @@ fn put_lineage_fault<S: Sink>(sink: &mut S, fault: LineageFault) -> Result<(), S
         LineageFault::NotAppended(id) => put_named_long(sink, b"L1 NotAppended ", id),
         LineageFault::NotAncestor => write_all(sink, b"L2 NotAncestor"),
     }
+}
+
+/// The number and the name of a flaw.
+fn state_flaw_name(flaw: StateFlaw) -> &'static [u8]
+    ensures { result.now ≡ state_flaw_name flaw }
+{
+    match flaw {
+        StateFlaw::NotAState => b"Y1 NotAState ",
+        StateFlaw::OtherVersion => b"Y2 OtherVersion ",
+        StateFlaw::Damaged => b"Y3 Damaged ",
+        StateFlaw::OtherScan => b"Y4 OtherScan ",
+        StateFlaw::NotOfScan => b"Y5 NotOfScan ",
+    }
+}
+
+fn put_state_fault<S: Sink>(sink: &mut S, path: &[u8], flaw: StateFlaw) -> Result<(), SinkFault>
+    ensures { Wrote S.taken S.may_fail sink.old result sink.new (state_text path.now flaw) }
+{
+    put_named_path(sink, state_flaw_name(flaw), path)
 }
 
 #[tactic(auto, unfolding(crate::specs::FaultTexts::drill_fault_text))]

@@ -12,6 +12,8 @@ mod lineage_fault;
 mod reading;
 mod reporting;
 mod request;
+mod share;
+mod state_flaw;
 mod workers;
 mod write;
 
@@ -24,5 +26,7 @@ pub use lineage_fault::LineageFault;
 pub use reading::{read_file, read_file_into, read_rows};
 pub use reporting::report;
 pub use request::{ChangesRequest, CommitRequest, Request, Separator};
+pub use share::Share;
+pub use state_flaw::StateFlaw;
 pub use workers::Workers;
 pub use write::{write_plan, write_plan_by_workers};

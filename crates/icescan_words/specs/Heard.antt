@@ -1,5 +1,5 @@
 -- What the words of a command line ask for, said without a parser.
-use Rattle.std.specs.Prelude.{◌≡◌, ◌⊎◌, ℕ, ◌==◌, Bool, true, false, not, ◌&&◌, ◌||◌, if◌then◌else◌, List, [], ◌∷◌}
+use Rattle.std.specs.Prelude.{◌≡◌, ◌⊎◌, ℕ, ◌==◌, Bool, true, false, not, ◌||◌, if◌then◌else◌, List, [], ◌∷◌}
 use Rattle.std.specs.Prelude.{codes, nat_eq, option_and_then, option_map, slice_get, unwrap_or, Option, Some, None, ℤ}
 use Rattle.std.specs.List.{after_first, before_first, list_any, starts_with}
 use Rattle.std.specs.Str.{bytes_eq}
@@ -9,6 +9,7 @@ use Rattle.icescan_forms.specs.declared.format.Format.{Format}
 use Rattle.icescan_forms.specs.declared.format.Format.TheVariants as format
 use Rattle.icescan_forms.specs.declared.part.Part.{Part}
 use Rattle.icescan_forms.specs.declared.part.Part.TheVariants as part
+use Rattle.icescan_words.specs.declared.command.Asked.{Asked}
 use Rattle.icescan_words.specs.declared.command.Command.{Command}
 use Rattle.icescan_words.specs.declared.command.Command.TheVariants as command
 use Rattle.icescan_words.specs.declared.command.Lists.{Lists}
@@ -27,12 +28,17 @@ use Rattle.icescan_text.specs.declared.request.ChangesRequest.{ChangesRequest}
 use Rattle.icescan_text.specs.declared.request.CommitRequest.{CommitRequest}
 use Rattle.ice_catalog_changes.specs.declared.change.Ids.{Ids}
 use Rattle.icescan_text.specs.declared.request.Request.{Request}
+use Rattle.icescan_text.specs.declared.share.Share.{Share}
 use Rattle.icescan_text.specs.declared.request.Separator.TheVariants as separator
 use Rattle.icescan_text.specs.declared.drill.Drill.{Drill}
 
 -- `=`
 abbrev pub is_equals : ℕ → Bool
 is_equals byte = byte == 61
+
+-- `/`
+abbrev pub is_slash : ℕ → Bool
+is_slash byte = byte == 47
 
 -- the value of an option: what stands after `=` in its word, or else the next word
 abbrev pub value_in : List ℕ → List (List ℕ) → Option (List ℕ)
@@ -160,6 +166,9 @@ command_name (command.Relaxed what from request form workers path) = relaxed_nam
 command_name (command.Changes from request form workers path) = codes "changes"
 command_name (command.Reachable from part form path) = codes "reachable"
 command_name (command.Orphans place older form path) = codes "orphans"
+command_name (command.Take from asked share workers path) = codes "take"
+command_name (command.Join states) = codes "join"
+command_name (command.Finish from asked states form workers path) = codes "finish"
 command_name (command.Drill drill) = codes "drill"
 command_name (command.Text text) = codes "help"
 
@@ -187,6 +196,10 @@ module _ (words : List (List ℕ)) where
   abbrev pub has_word : List ℕ → Bool
   has_word wanted = list_any (λ word. bytes_eq word wanted) words
 
+  -- it is one of them just where it is asked
+  abbrev pub IsFlagged : List ℕ → Bool → Type 0
+  IsFlagged wanted asked = asked ≡ has_word wanted
+
   -- the plan of the snapshot that the option of this name names, under the filter
   abbrev pub HasNamedPlan : List ℕ → Request → Type 0
   HasNamedPlan name request = (option_in words (codes "--filter") ≡ request.filter)
@@ -194,14 +207,14 @@ module _ (words : List (List ℕ)) where
 
   -- a word asks for a relaxed filter, or none does
   abbrev pub IsRelaxed : Bool → Type 0
-  IsRelaxed asked = asked ≡ has_word (codes "--relax")
+  IsRelaxed = IsFlagged (codes "--relax")
 
   -- a word asks for all snapshots, or none does
   abbrev pub IsOfAll : Bool → Type 0
-  IsOfAll asked = asked ≡ has_word (codes "--all")
+  IsOfAll = IsFlagged (codes "--all")
 
   abbrev pub HasAppends : Bool → Type 0
-  HasAppends appends = appends ≡ has_word (codes "--appends")
+  HasAppends = IsFlagged (codes "--appends")
 
   -- the plans of --from and --to, and whether each snapshot between has to be an append
   pub record HasChanges (request : ChangesRequest) : Type 0 where
@@ -214,6 +227,16 @@ module _ (words : List (List ℕ)) where
 
   abbrev pub HasWorkers : ℕ → Type 0
   HasWorkers workers = workers ≡ workers_by (option_in words (codes "--workers"))
+
+  -- the plan that is asked for, under its filter as it stands or relaxed
+  abbrev pub HasAsked : Asked → Type 0
+  HasAsked asked = HasRequest asked.request × IsRelaxed asked.relaxed
+
+  -- --part is the share's number, a slash, and how many shares there are
+  abbrev pub HasShare : Share → Type 0
+  HasShare share = (text : List ℕ) × (option_in words (codes "--part") ≡ Some text)
+      × (unsigned (Some (before_first is_slash text)) ≡ Some share.number)
+      × (unsigned (Some (after_first is_slash text)) ≡ Some share.count)
 
   pub record HasIds (ids : Ids) : Type 0 where
     pub snapshot : signed (option_in words (codes "--snapshot-id")) ≡ Some ids.snapshot
@@ -260,5 +283,11 @@ module _ (words : List (List ℕ)) where
       Names (codes "reachable") path × HasSource from × HasPart part × HasFormat form
   AsksFor (command.Orphans place older form path) = Names (codes "orphans") path × HasSource (source.Folder place)
       × (unsigned (option_in words (codes "--older-than-ms")) ≡ Some older) × HasFormat form
+  AsksFor (command.Take from asked share workers path) =
+      Names (codes "take") path × HasSource from × HasAsked asked × HasShare share × HasWorkers workers
+  AsksFor (command.Join states) = plain_words words ≡ codes "join" ∷ states.paths
+  AsksFor (command.Finish from asked states form workers path) =
+      (plain_words words ≡ codes "finish" ∷ path ∷ states.paths) × HasSource from × HasAsked asked × HasFormat form
+      × HasWorkers workers
   AsksFor (command.Drill drill) = HasDrill drill
   AsksFor (command.Text text) = list_any asks_help words ≡ true

@@ -1,14 +1,27 @@
 //! The command `changes`.
 
-use crate::command_line::{described, over_files};
 use crate::parameter::Parameter;
 use crate::parameters::{
     APPENDS, BUNDLE, DIR, FILTER, FROM, LINES_FORMAT, METADATA, PREFIX, QUIET, TO, WORKERS,
 };
-use clap::Command;
-use std::alloc::{AllocError, Global};
 
-const CHANGES_EXAMPLE: &str =
+pub const CHANGES: &[Parameter] = &[
+    METADATA,
+    FROM,
+    TO,
+    FILTER,
+    APPENDS,
+    LINES_FORMAT,
+    WORKERS,
+    BUNDLE,
+    DIR,
+    PREFIX,
+    QUIET,
+];
+
+pub const CHANGES_ABOUT: &str = "Print what became of a table's files from one snapshot to another";
+
+pub const CHANGES_EXAMPLE: &str =
     "What is new in a table since a snapshot, and what is gone: the plan of --from
 against that of --to, under one filter. A line for each data file that only one
 of the two plans has, or to which other delete files apply, in the order of
@@ -46,27 +59,3 @@ Example, at the top of icescan's repository:
 Exit status: 0 done, 1 the table is refused, 2 the command line, the bundle or
 the filter is, 3 a read or a write failed, 5 memory ran out. A refusal is one
 line on standard error.";
-
-const CHANGES: &[Parameter] = &[
-    METADATA,
-    FROM,
-    TO,
-    FILTER,
-    APPENDS,
-    LINES_FORMAT,
-    WORKERS,
-    BUNDLE,
-    DIR,
-    PREFIX,
-    QUIET,
-];
-
-/// The command `changes`.
-pub fn changes_command<'a>(alloc: Global) -> Result<Command<'a>, AllocError> {
-    let about = "Print what became of a table's files from one snapshot to another";
-    over_files(
-        alloc,
-        described(alloc, "changes", about, CHANGES_EXAMPLE),
-        CHANGES,
-    )
-}

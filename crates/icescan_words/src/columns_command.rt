@@ -1,14 +1,23 @@
 //! The command `columns`.
 
-use crate::command_line::{described, over_files};
 use crate::parameter::Parameter;
 use crate::parameters::{
     BUNDLE, COLUMNS_REF, COLUMNS_SNAPSHOT, DIR, LINES_FORMAT, METADATA, PREFIX,
 };
-use clap::Command;
-use std::alloc::{AllocError, Global};
 
-const COLUMNS_EXAMPLE: &str =
+pub const COLUMNS: &[Parameter] = &[
+    METADATA,
+    COLUMNS_REF,
+    COLUMNS_SNAPSHOT,
+    LINES_FORMAT,
+    BUNDLE,
+    DIR,
+    PREFIX,
+];
+
+pub const COLUMNS_ABOUT: &str = "Print the columns that a filter may name, and partition fields";
+
+pub const COLUMNS_EXAMPLE: &str =
     "A line for the schema, and after it one for each of its columns, each before
 those inside it; then the spec of new files, and each partition spec with its
 fields:
@@ -37,23 +46,3 @@ Example, at the top of icescan's repository:
 Exit status: 0 done, 1 the metadata is refused, 2 the command line or the bundle
 is, 3 a read or a write failed, 5 memory ran out. A refusal is one line on
 standard error.";
-
-const COLUMNS: &[Parameter] = &[
-    METADATA,
-    COLUMNS_REF,
-    COLUMNS_SNAPSHOT,
-    LINES_FORMAT,
-    BUNDLE,
-    DIR,
-    PREFIX,
-];
-
-/// The command `columns`.
-pub fn columns_command<'a>(alloc: Global) -> Result<Command<'a>, AllocError> {
-    let about = "Print the columns that a filter may name, and partition fields";
-    over_files(
-        alloc,
-        described(alloc, "columns", about, COLUMNS_EXAMPLE),
-        COLUMNS,
-    )
-}

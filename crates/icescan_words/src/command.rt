@@ -1,9 +1,11 @@
 //! What the words of a command line ask for.
 
-use contract_words::Text;
+ghost use Rattle.std.specs.Prelude.{◌≡◌, ◌<◌, [], length, MatchOption};
+
+use contract_words::{Items, Text};
 use ice_meta::Target;
 use icescan_forms::{Format, Part};
-use icescan_text::{ChangesRequest, CommitRequest, Drill, Request, Separator};
+use icescan_text::{ChangesRequest, CommitRequest, Drill, Request, Separator, Share};
 
 /// A folder, and how the paths of the files below it begin.
 #[derive(Debug, Drop)]
@@ -48,6 +50,40 @@ pub enum Relaxed {
     Explanation,
 }
 
+/// The plan that is asked of a table, under its filter as it stands or relaxed.
+#[derive(Debug, Drop)]
+pub struct Asked {
+    pub request: Request,
+    pub relaxed: bool,
+}
+
+/// The names of the files of states, of which there is one at least.
+#[derive(Debug, Drop)]
+pub struct States {
+    paths: Items<Text>,
+    ghost some: { 0 < length paths },
+}
+
+impl States {
+    /// These names, where there is one.
+    pub fn new(paths: Items<Text>) -> Option<States>
+        ensures { MatchOption result (paths ≡ []) (λ states. states.paths ≡ paths) }
+    {
+        if paths.as_slice().is_empty() {
+            return None;
+        }
+        Some(States { paths })
+    }
+
+    /// The names.
+    pub fn paths(&self) -> &[Text]
+        ensures same { result.now ≡ self.now.paths }
+        ensures some { 0 < length result.now }
+    {
+        self.paths.as_slice()
+    }
+}
+
 /// What the words ask for.
 #[derive(Debug, Drop)]
 pub enum Command {
@@ -78,6 +114,13 @@ pub enum Command {
     /// The files below this folder, older than so many milliseconds, in this form, that the table does not reach whose
     /// metadata is at this path.
     Orphans(Place, u64, Format, Text),
+    /// The state of this share, by so many workers, of the plan that is asked of the table whose metadata is at this path.
+    Take(Source, Asked, Share, usize, Text),
+    /// The states in these files as one.
+    Join(States),
+    /// The plan of the states in these files, in this form and its text by so many workers, that is asked of the table
+    /// whose metadata is at this path.
+    Finish(Source, Asked, States, Format, usize, Text),
     /// A drill.
     Drill(Drill),
     /// A text of help, or the version.

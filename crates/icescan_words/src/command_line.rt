@@ -1,21 +1,26 @@
 //! The command line: its commands, options and help.
 
-use crate::changes_command::changes_command;
-use crate::columns_command::columns_command;
-use crate::explain_command::explain_command;
+use crate::changes_command::{CHANGES, CHANGES_ABOUT, CHANGES_EXAMPLE};
+use crate::columns_command::{COLUMNS, COLUMNS_ABOUT, COLUMNS_EXAMPLE};
+use crate::explain_command::{EXPLAIN, EXPLAIN_ABOUT, EXPLAIN_EXAMPLE};
 use crate::help_texts::{
-    ABOUT, APPEND_EXAMPLE, AUDIT_EXAMPLE, DRILL_EXAMPLE, LIST_EXAMPLE, PLAN_EXAMPLE,
-    PROGRAM_EXAMPLE, ROW_DELTA_EXAMPLE, SHOW_EXAMPLE,
+    ABOUT, APPEND_ABOUT, APPEND_EXAMPLE, AUDIT_ABOUT, AUDIT_EXAMPLE, DRILL_ABOUT, DRILL_EXAMPLE,
+    LIST_ABOUT, LIST_EXAMPLE, PLAN_ABOUT, PLAN_EXAMPLE, PROGRAM_EXAMPLE, ROW_DELTA_ABOUT,
+    ROW_DELTA_EXAMPLE, SHOW_ABOUT, SHOW_EXAMPLE,
 };
-use crate::locate_command::locate_command;
-use crate::orphans_command::orphans_command;
+use crate::locate_command::{LOCATE, LOCATE_ABOUT, LOCATE_EXAMPLE};
+use crate::orphans_command::{ORPHANS, ORPHANS_ABOUT, ORPHANS_EXAMPLE};
 use crate::parameter::{Parameter, argument, flag};
 use crate::parameters::{
     AUDITED_ALL, AUDITED_REF, AUDITED_SNAPSHOT, BUNDLE, CHANGE, COMMITS, DIR, FILTER, FORMAT,
     LINES_FORMAT, LIST, METADATA, NOW_MS, OUT, PREFIX, QUIET, REF, RELAX, SNAPSHOT, SNAPSHOT_ID,
     THREADS, UUID, WORKERS,
 };
-use crate::reachable_command::reachable_command;
+use crate::reachable_command::{REACHABLE, REACHABLE_ABOUT, REACHABLE_EXAMPLE};
+use crate::shares_commands::{
+    FINISH, FINISH_ABOUT, FINISH_EXAMPLE, JOIN, JOIN_ABOUT, JOIN_EXAMPLE, TAKE, TAKE_ABOUT,
+    TAKE_EXAMPLE,
+};
 use clap::{Arg, ArgGroup, Command};
 use std::alloc::{AllocError, Global};
 
@@ -33,6 +38,9 @@ enum Name {
     Changes,
     Reachable,
     Orphans,
+    Take,
+    Join,
+    Finish,
     Drill,
 }
 
@@ -50,6 +58,9 @@ const NAMES: &[Name] = &[
     Name::Changes,
     Name::Reachable,
     Name::Orphans,
+    Name::Take,
+    Name::Join,
+    Name::Finish,
     Name::Drill,
 ];
 
@@ -95,13 +106,9 @@ fn ways<'a>(alloc: Global) -> Result<ArgGroup<'a>, AllocError> {
     Ok(ways.required(true))
 }
 
-/// A command without parameters.
-pub fn described<'a>(
-    alloc: Global,
-    name: &'a str,
-    about: &'a str,
-    example: &'a str,
-) -> Command<'a> {
+/// A command without parameters: its name, what it does, and its long help.
+fn described<'a>(alloc: Global, texts: (&'a str, &'a str, &'a str)) -> Command<'a> {
+    let (name, about, example) = texts;
     Command::new(alloc, name)
         .about(about)
         .after_long_help(example)
@@ -117,11 +124,12 @@ fn arguments<'a>(alloc: Global, parameters: &'a [Parameter]) -> Result<Vec<Arg<'
 }
 
 /// A command with its parameters.
-pub fn with_parameters<'a>(
+fn with_parameters<'a>(
     alloc: Global,
-    command: Command<'a>,
+    texts: (&'a str, &'a str, &'a str),
     parameters: &'a [Parameter],
 ) -> Result<Command<'a>, AllocError> {
+    let command = described(alloc, texts);
     match arguments(alloc, parameters) {
         Ok(arguments) => command.args(arguments),
         Err(error) => {
@@ -132,12 +140,12 @@ pub fn with_parameters<'a>(
 }
 
 /// A command with its parameters, of which `--bundle` or `--dir` has to say where files come from.
-pub fn over_files<'a>(
+fn over_files<'a>(
     alloc: Global,
-    command: Command<'a>,
+    texts: (&'a str, &'a str, &'a str),
     parameters: &'a [Parameter],
 ) -> Result<Command<'a>, AllocError> {
-    let command = with_parameters(alloc, command, parameters)?;
+    let command = with_parameters(alloc, texts, parameters)?;
     match ways(alloc) {
         Ok(ways) => command.group(ways),
         Err(error) => {
@@ -147,84 +155,37 @@ pub fn over_files<'a>(
     }
 }
 
-/// The command `plan`.
-fn plan_command<'a>(alloc: Global) -> Result<Command<'a>, AllocError> {
-    let about = "Print a snapshot's data files, each with its delete files";
-    over_files(alloc, described(alloc, "plan", about, PLAN_EXAMPLE), PLAN)
-}
-
-/// The command `list-plan`.
-fn list_plan_command<'a>(alloc: Global) -> Result<Command<'a>, AllocError> {
-    let about = "Plan a manifest list, of a table without partitions alone";
-    over_files(
-        alloc,
-        described(alloc, "list-plan", about, LIST_EXAMPLE),
-        LIST_PLAN,
-    )
-}
-
-/// The command `append`.
-fn append_command<'a>(alloc: Global) -> Result<Command<'a>, AllocError> {
-    let about = "Commit data files: write manifests, a list and, last, metadata";
-    over_files(
-        alloc,
-        described(alloc, "append", about, APPEND_EXAMPLE),
-        COMMIT,
-    )
-}
-
-/// The command `row-delta`.
-fn row_delta_command<'a>(alloc: Global) -> Result<Command<'a>, AllocError> {
-    let about = "Commit data files and delete files in the same way";
-    over_files(
-        alloc,
-        described(alloc, "row-delta", about, ROW_DELTA_EXAMPLE),
-        COMMIT,
-    )
-}
-
-/// The command `show`.
-fn show_command<'a>(alloc: Global) -> Result<Command<'a>, AllocError> {
-    let about = "Print a table's schemas, partition specs, snapshots and refs";
-    over_files(alloc, described(alloc, "show", about, SHOW_EXAMPLE), SHOW)
-}
-
-/// The command `audit`.
-fn audit_command<'a>(alloc: Global) -> Result<Command<'a>, AllocError> {
-    let about = "Check that each manifest is as the list and the metadata say";
-    over_files(
-        alloc,
-        described(alloc, "audit", about, AUDIT_EXAMPLE),
-        AUDIT,
-    )
-}
-
-/// The command `drill`.
-fn drill_command<'a>(alloc: Global) -> Result<Command<'a>, AllocError> {
-    let about = "Commit from many threads at once in memory, and lose none";
-    with_parameters(
-        alloc,
-        described(alloc, "drill", about, DRILL_EXAMPLE),
-        DRILL,
-    )
-}
-
 /// What the parser is told of a command.
 fn command<'a>(alloc: Global, name: &Name) -> Result<Command<'a>, AllocError> {
     match name {
-        Name::Plan => plan_command(alloc),
-        Name::ListPlan => list_plan_command(alloc),
-        Name::Append => append_command(alloc),
-        Name::RowDelta => row_delta_command(alloc),
-        Name::Show => show_command(alloc),
-        Name::Columns => columns_command(alloc),
-        Name::Locate => locate_command(alloc),
-        Name::Audit => audit_command(alloc),
-        Name::Explain => explain_command(alloc),
-        Name::Changes => changes_command(alloc),
-        Name::Reachable => reachable_command(alloc),
-        Name::Orphans => orphans_command(alloc),
-        Name::Drill => drill_command(alloc),
+        Name::Plan => over_files(alloc, ("plan", PLAN_ABOUT, PLAN_EXAMPLE), PLAN),
+        Name::ListPlan => over_files(alloc, ("list-plan", LIST_ABOUT, LIST_EXAMPLE), LIST_PLAN),
+        Name::Append => over_files(alloc, ("append", APPEND_ABOUT, APPEND_EXAMPLE), COMMIT),
+        Name::RowDelta => over_files(
+            alloc,
+            ("row-delta", ROW_DELTA_ABOUT, ROW_DELTA_EXAMPLE),
+            COMMIT,
+        ),
+        Name::Show => over_files(alloc, ("show", SHOW_ABOUT, SHOW_EXAMPLE), SHOW),
+        Name::Columns => over_files(alloc, ("columns", COLUMNS_ABOUT, COLUMNS_EXAMPLE), COLUMNS),
+        Name::Locate => with_parameters(alloc, ("locate", LOCATE_ABOUT, LOCATE_EXAMPLE), LOCATE),
+        Name::Audit => over_files(alloc, ("audit", AUDIT_ABOUT, AUDIT_EXAMPLE), AUDIT),
+        Name::Explain => over_files(alloc, ("explain", EXPLAIN_ABOUT, EXPLAIN_EXAMPLE), EXPLAIN),
+        Name::Changes => over_files(alloc, ("changes", CHANGES_ABOUT, CHANGES_EXAMPLE), CHANGES),
+        Name::Reachable => over_files(
+            alloc,
+            ("reachable", REACHABLE_ABOUT, REACHABLE_EXAMPLE),
+            REACHABLE,
+        ),
+        Name::Orphans => with_parameters(
+            alloc,
+            ("orphans", ORPHANS_ABOUT, ORPHANS_EXAMPLE),
+            ORPHANS,
+        ),
+        Name::Take => over_files(alloc, ("take", TAKE_ABOUT, TAKE_EXAMPLE), TAKE),
+        Name::Join => with_parameters(alloc, ("join", JOIN_ABOUT, JOIN_EXAMPLE), JOIN),
+        Name::Finish => over_files(alloc, ("finish", FINISH_ABOUT, FINISH_EXAMPLE), FINISH),
+        Name::Drill => with_parameters(alloc, ("drill", DRILL_ABOUT, DRILL_EXAMPLE), DRILL),
     }
 }
 
@@ -240,7 +201,7 @@ fn commands<'a>(alloc: Global) -> Result<Vec<Command<'a>>, AllocError> {
 /// The program without its commands. The options `--explain`, which asks for a hint after the line of a refusal and for
 /// notes beside an answer, and `--no-links` have no effect on what the words ask for.
 fn bare_program<'a>(alloc: Global) -> Result<Command<'a>, AllocError> {
-    let program = described(alloc, "icescan", ABOUT, PROGRAM_EXAMPLE)
+    let program = described(alloc, ("icescan", ABOUT, PROGRAM_EXAMPLE))
         .no_binary_name(true)
         .version("0.1.0")
         .subcommand_required(true);

@@ -1,15 +1,28 @@
 //! The command `explain`.
 
-use crate::command_line::{described, over_files};
 use crate::parameter::Parameter;
 use crate::parameters::{
     BUNDLE, DIR, EXPLAIN_WORKERS, FILTER, LINES_FORMAT, METADATA, PREFIX, QUIET, REF, RELAX,
     SNAPSHOT,
 };
-use clap::Command;
-use std::alloc::{AllocError, Global};
 
-const EXPLAIN_EXAMPLE: &str =
+pub const EXPLAIN: &[Parameter] = &[
+    METADATA,
+    REF,
+    SNAPSHOT,
+    FILTER,
+    RELAX,
+    EXPLAIN_WORKERS,
+    LINES_FORMAT,
+    BUNDLE,
+    DIR,
+    PREFIX,
+    QUIET,
+];
+
+pub const EXPLAIN_ABOUT: &str = "Say why each manifest and file is in a plan, or left out";
+
+pub const EXPLAIN_EXAMPLE: &str =
     "What becomes of each manifest of the snapshot, in the order of their paths, and
 after each that is read what becomes of its live files, in the order of their
 positions:
@@ -46,27 +59,3 @@ filter was read, with dates and times as a calendar has them.
 Exit status: 0 done, 1 the table is refused, 2 the command line, the bundle or
 the filter is, 3 a read or a write failed, 5 memory ran out. A refusal is one
 line on standard error.";
-
-const EXPLAIN: &[Parameter] = &[
-    METADATA,
-    REF,
-    SNAPSHOT,
-    FILTER,
-    RELAX,
-    EXPLAIN_WORKERS,
-    LINES_FORMAT,
-    BUNDLE,
-    DIR,
-    PREFIX,
-    QUIET,
-];
-
-/// The command `explain`.
-pub fn explain_command<'a>(alloc: Global) -> Result<Command<'a>, AllocError> {
-    let about = "Say why each manifest and file is in a plan, or left out";
-    over_files(
-        alloc,
-        described(alloc, "explain", about, EXPLAIN_EXAMPLE),
-        EXPLAIN,
-    )
-}

@@ -1,13 +1,14 @@
 //! Whether a command is the one that the words ask for, found without the parser.
 
-ghost use Rattle.std.specs.Prelude.{◌≡◌, ◌∷◌, [], IfOk, IsTrue, None, Some, bytes_eq, codes, false, if◌then◌else◌, map, nat_eq};
+ghost use Rattle.std.specs.Prelude.{◌≡◌, ◌∷◌, [], IfOk, IfSome, IsTrue, None, Some, bytes_eq, codes, false};
+ghost use Rattle.std.specs.Prelude.{if◌then◌else◌, map, nat_eq};
 ghost use Rattle.std.specs.Prelude.{option_and_then, option_map, string_bytes, true};
 ghost use Rattle.std.specs.List.{after_first, before_first, list_any, starts_with};
 ghost use Rattle.uuid.specs.Text.{parsed};
-ghost use Rattle.icescan_words.specs.Heard.{HasAppends, HasChanges, HasNamedPlan, IsNamed, IsRelaxed, relaxed_name};
+ghost use Rattle.icescan_words.specs.Heard.{HasChanges, HasNamedPlan, IsFlagged, IsNamed, IsRelaxed, relaxed_name};
 ghost use Rattle.icescan_words.specs.Heard.{AsksFor, HasCommit, HasDrill, HasFormat, HasIds, HasRequest, HasSource};
 ghost use Rattle.icescan_words.specs.Heard.{HasLocated, HasPart, HasTarget, HasWorkers, Names, asks_help, is_equals};
-ghost use Rattle.icescan_words.specs.Heard.{IsOfAll, is_flag};
+ghost use Rattle.icescan_words.specs.Heard.{HasAsked, HasShare, IsOfAll, is_flag, is_slash};
 ghost use Rattle.icescan_words.specs.Heard.{list_of, name_of};
 ghost use Rattle.icescan_words.specs.Heard.{option_in, option_items, plain_words, located_by, signed, source_of};
 ghost use Rattle.icescan_words.specs.Heard.{takes_next};
@@ -15,12 +16,12 @@ ghost use Rattle.icescan_words.specs.Heard.{unsigned};
 ghost use Rattle.icescan_words.specs.declared.command.Source.TheVariants as source;
 
 use crate::answer_format::format_by;
-use crate::command::{Command, Lists, Located, Place, Relaxed, Source};
+use crate::command::{Asked, Command, Lists, Located, Place, Relaxed, Source, States};
 use contract_words::Text;
 use ice_catalog_changes::Ids;
 use ice_meta::Target;
 use icescan_forms::{Format, Part};
-use icescan_text::{ChangeKind, ChangesRequest, CommitRequest, Drill, Request, Separator};
+use icescan_text::{ChangeKind, ChangesRequest, CommitRequest, Drill, Request, Separator, Share};
 use std::alloc::{AllocError, Global};
 use uuid::Uuid;
 
@@ -410,45 +411,29 @@ fn is_about(words: &[String], plain: &[&str], name: &str, source: &Source, path:
     are_words(plain, &[name, path]) && has_source(words, source)
 }
 
-/// Whether the words ask this of a table, by so many workers.
-fn has_scan(words: &[String], request: &Request, workers: usize) -> bool
-    ensures { IsTrue result → HasRequest (map string_bytes words.now) request.now
-        × HasWorkers (map string_bytes words.now) workers }
+/// Whether this word is among the words just where it is asked.
+fn is_flagged(words: &[String], word: &str, asked: bool) -> bool
+    ensures { IsTrue result → IsFlagged (map string_bytes words.now) word.now asked }
 {
-    has_request(words, request) && has_workers(words, workers)
+    asked == has_word(words, word)
 }
 
-/// Whether the words relax the filter, or don't.
-fn is_relaxed(words: &[String], relaxed: bool) -> bool
-    ensures { IsTrue result → IsRelaxed (map string_bytes words.now) relaxed }
-{
-    relaxed == has_word(words, "--relax")
-}
-
-/// Whether the words ask this of a table, in this form and by so many workers.
-fn has_told(words: &[String], request: &Request, format: Format, workers: usize) -> bool
-    ensures { IsTrue result → HasRequest (map string_bytes words.now) request.now
-        × HasFormat (map string_bytes words.now) format × HasWorkers (map string_bytes words.now) workers }
-{
-    has_format(words, format) && has_scan(words, request, workers)
-}
-
-/// The same, under the filter as it stands.
-fn has_plan(words: &[String], request: &Request, format: Format, workers: usize) -> bool
+/// Whether the words ask this of a table, in this form and by so many workers, with the filter relaxed or not.
+fn has_plan(
+    words: &[String],
+    request: &Request,
+    format: Format,
+    workers: usize,
+    relaxed: bool,
+) -> bool
     ensures { IsTrue result → HasRequest (map string_bytes words.now) request.now
         × HasFormat (map string_bytes words.now) format × HasWorkers (map string_bytes words.now) workers
-        × IsRelaxed (map string_bytes words.now) false }
+        × IsRelaxed (map string_bytes words.now) relaxed }
 {
-    has_told(words, request, format, workers) && is_relaxed(words, false)
-}
-
-/// The same, under the relaxed filter.
-fn has_relaxed(words: &[String], request: &Request, format: Format, workers: usize) -> bool
-    ensures { IsTrue result → HasRequest (map string_bytes words.now) request.now
-        × HasFormat (map string_bytes words.now) format × HasWorkers (map string_bytes words.now) workers
-        × IsRelaxed (map string_bytes words.now) true }
-{
-    has_told(words, request, format, workers) && is_relaxed(words, true)
+    has_request(words, request)
+        && has_format(words, format)
+        && has_workers(words, workers)
+        && is_flagged(words, "--relax", relaxed)
 }
 
 /// The name of the command that asks for this.
@@ -469,20 +454,15 @@ fn has_columns(words: &[String], target: &Target, format: Format) -> bool
     has_target(words, target) && has_format(words, format)
 }
 
-/// Whether the words ask for all snapshots, or don't.
-fn is_of_all(words: &[String], all: bool) -> bool
-    ensures { IsTrue result → IsOfAll (map string_bytes words.now) all }
-{
-    all == has_word(words, "--all")
-}
-
 /// Whether the words ask for the audit of this snapshot, in this form and by so many workers.
 fn has_audit(words: &[String], target: &Target, format: Format, workers: usize) -> bool
     ensures { IsTrue result → HasTarget (map string_bytes words.now) target.now
         × HasFormat (map string_bytes words.now) format × HasWorkers (map string_bytes words.now) workers
         × IsOfAll (map string_bytes words.now) false }
 {
-    has_columns(words, target, format) && has_workers(words, workers) && is_of_all(words, false)
+    has_columns(words, target, format)
+        && has_workers(words, workers)
+        && is_flagged(words, "--all", false)
 }
 
 /// Whether the words ask for the audits of all snapshots, in this form and by so many workers.
@@ -490,7 +470,7 @@ fn has_audits(words: &[String], format: Format, workers: usize) -> bool
     ensures { IsTrue result → HasFormat (map string_bytes words.now) format
         × HasWorkers (map string_bytes words.now) workers × IsOfAll (map string_bytes words.now) true }
 {
-    has_format(words, format) && has_workers(words, workers) && is_of_all(words, true)
+    has_format(words, format) && has_workers(words, workers) && is_flagged(words, "--all", true)
 }
 
 /// Whether the words name this snapshot by the option of this name.
@@ -512,20 +492,13 @@ fn has_named_plan(words: &[String], name: &str, request: &Request) -> bool
     has_filter(words, request.filter.as_ref()) && has_named(words, name, &request.target)
 }
 
-/// Whether the words say that each snapshot between has to be an append, or don't.
-fn has_appends(words: &[String], appends: bool) -> bool
-    ensures { IsTrue result → HasAppends (map string_bytes words.now) appends }
-{
-    appends == has_word(words, "--appends")
-}
-
 /// Whether the words ask for these changes.
 fn has_changes(words: &[String], request: &ChangesRequest) -> bool
     ensures { IsTrue result → HasChanges (map string_bytes words.now) request.now }
 {
     has_named_plan(words, "--from", &request.earlier)
         && has_named_plan(words, "--to", &request.later)
-        && has_appends(words, request.appends)
+        && is_flagged(words, "--appends", request.appends)
 }
 
 /// Whether the words ask for these changes, in this form and by so many workers.
@@ -579,6 +552,98 @@ fn has_age_told(words: &[String], place: &Place, older_than_ms: u64, format: For
     has_age(words, place, older_than_ms) && has_format(words, format)
 }
 
+/// Whether the words ask for this plan, under its filter as it stands or relaxed.
+fn has_asked(words: &[String], asked: &Asked) -> bool
+    ensures { IsTrue result → HasAsked (map string_bytes words.now) asked.now }
+{
+    has_request(words, &asked.request) && is_flagged(words, "--relax", asked.relaxed)
+}
+
+/// Whether a text is a share's number, a slash, and how many shares there are.
+fn is_share(text: &str, share: Share) -> bool
+    ensures { IsTrue result → (unsigned (Some (before_first is_slash text.now)) ≡ Some share.number)
+        × (unsigned (Some (after_first is_slash text.now)) ≡ Some share.count) }
+{
+    match text.split_once('/') {
+        Some((number, count)) => {
+            is_unsigned(Some(number), share.number()) && is_unsigned(Some(count), share.count())
+        }
+        None => false,
+    }
+}
+
+/// Whether the words ask for this share.
+fn has_share(words: &[String], share: Share) -> bool
+    ensures { IsTrue result → HasShare (map string_bytes words.now) share }
+{
+    match option_in(words, "--part") {
+        Some(text) => is_share(text, share),
+        None => false,
+    }
+}
+
+/// Whether the words ask for this share of this plan, by so many workers.
+fn has_take(words: &[String], asked: &Asked, share: Share, workers: usize) -> bool
+    ensures { IsTrue result → HasAsked (map string_bytes words.now) asked.now
+        × HasShare (map string_bytes words.now) share × HasWorkers (map string_bytes words.now) workers }
+{
+    has_asked(words, asked) && has_share(words, share) && has_workers(words, workers)
+}
+
+/// Whether words are these texts.
+fn are_texts(words: &[&str], texts: &[Text]) -> bool
+    ensures { IsTrue result → map (λ s. s.now) words.now ≡ texts.now }
+{
+    if words.len() != texts.len() {
+        return false;
+    }
+    'words: for i in 0..words.len() {
+        if words[i] != texts[i].as_str() {
+            return false;
+        }
+    }
+    true
+}
+
+/// The words behind the first, where that is this one.
+fn words_behind<'b, 'a>(words: &'b [&'a str], first: &str) -> Option<&'b [&'a str]>
+    ensures { IfSome result (λ rest. map (λ s. s.now) words.now ≡ first.now ∷ map (λ s. s.now) rest.now) }
+{
+    let (word, rest) = words.split_first()?;
+    if *word == first { Some(rest) } else { None }
+}
+
+/// Whether the plain words are `join` and these files.
+fn names_joined(plain: &[&str], states: &States) -> bool
+    ensures { IsTrue result → map (λ s. s.now) plain.now ≡ codes "join" ∷ states.now.paths }
+{
+    match words_behind(plain, "join") {
+        Some(rest) => are_texts(rest, states.paths()),
+        None => false,
+    }
+}
+
+/// Whether the plain words are `finish`, this path and these files.
+fn names_finished(plain: &[&str], path: &str, states: &States) -> bool
+    ensures { IsTrue result → map (λ s. s.now) plain.now ≡ codes "finish" ∷ path.now ∷ states.now.paths }
+{
+    let Some(rest) = words_behind(plain, "finish") else {
+        return false;
+    };
+    match words_behind(rest, path) {
+        Some(rest) => are_texts(rest, states.paths()),
+        None => false,
+    }
+}
+
+/// Whether the words ask for this plan, in this form and by so many workers.
+fn has_finish(words: &[String], asked: &Asked, format: Format, workers: usize) -> bool
+    ensures { IsTrue result → HasAsked (map string_bytes words.now) asked.now
+        × HasFormat (map string_bytes words.now) format × HasWorkers (map string_bytes words.now) workers }
+{
+    has_asked(words, asked) && has_format(words, format) && has_workers(words, workers)
+}
+
 /// Whether the words, of which the plain ones are given, ask for this command.
 fn asks_with(words: &[String], plain: &[&str], command: &Command) -> bool
     requires { map (λ s. s.now) plain.now ≡ plain_words (map string_bytes words.now) }
@@ -590,7 +655,7 @@ fn asks_with(words: &[String], plain: &[&str], command: &Command) -> bool
         }
         Command::Plan(source, request, format, workers, path) => {
             is_about(words, plain, "plan", source, path.as_str())
-                && has_plan(words, request, *format, *workers)
+                && has_plan(words, request, *format, *workers, false)
         }
         Command::Commit(source, request) => {
             has_commit(words, plain, request) && has_source(words, source)
@@ -615,11 +680,11 @@ fn asks_with(words: &[String], plain: &[&str], command: &Command) -> bool
         }
         Command::Explain(source, request, format, workers, path) => {
             is_about(words, plain, "explain", source, path.as_str())
-                && has_plan(words, request, *format, *workers)
+                && has_plan(words, request, *format, *workers, false)
         }
         Command::Relaxed(what, source, request, format, workers, path) => {
             is_about(words, plain, relaxed_name(*what), source, path.as_str())
-                && has_relaxed(words, request, *format, *workers)
+                && has_plan(words, request, *format, *workers, true)
         }
         Command::Changes(source, request, format, workers, path) => {
             is_about(words, plain, "changes", source, path.as_str())
@@ -632,6 +697,16 @@ fn asks_with(words: &[String], plain: &[&str], command: &Command) -> bool
         Command::Orphans(place, older_than_ms, format, path) => {
             are_words(plain, &["orphans", path.as_str()])
                 && has_age_told(words, place, *older_than_ms, *format)
+        }
+        Command::Take(source, asked, share, workers, path) => {
+            is_about(words, plain, "take", source, path.as_str())
+                && has_take(words, asked, *share, *workers)
+        }
+        Command::Join(states) => names_joined(plain, states),
+        Command::Finish(source, asked, states, format, workers, path) => {
+            names_finished(plain, path.as_str(), states)
+                && has_source(words, source)
+                && has_finish(words, asked, *format, *workers)
         }
         Command::Drill(drill) => has_drill(words, plain, *drill),
         Command::Text(_) => any_asks_help(words),

@@ -3,6 +3,8 @@
 pub const ABOUT: &str =
     "Plans scans of Apache Iceberg tables: live data files and their delete files";
 
+pub const PLAN_ABOUT: &str = "Print a snapshot's data files, each with its delete files";
+
 pub const PLAN_EXAMPLE: &str =
     "A filter says which rows are asked for. A data file is left out only where none
 of its rows can meet it. In quotes it is one word for a shell:
@@ -30,10 +32,10 @@ Example, at the top of icescan's repository:
     s3://warehouse/db/events/metadata/00009-ea5012f5-592b-59fd-6564-e953f439e682.metadata.json
 
 With --format json the plan is one line, the answer of an Iceberg REST catalog
-to a scan that was planned: each delete file that the scan kept stands once in
-`delete-files`, and the task of a data file names those that apply to it by
-their places there, from 0. Partition values are as the table format has them in
-JSON, with days as dates:
+to a scan that was planned: each delete file that applies to one of the data
+files stands once in `delete-files`, and the task of a data file names those
+that apply to it by their places there, from 0. Partition values are as the
+table format has them in JSON, with days as dates:
   icescan plan --format json --dir examples/events-java/table --prefix s3://warehouse/db/events \\
     s3://warehouse/db/events/metadata/00009-ea5012f5-592b-59fd-6564-e953f439e682.metadata.json
 
@@ -45,6 +47,8 @@ pub const PROGRAM_EXAMPLE: &str =
     "Each command's long help has an example, as `icescan plan --help`.
 
 Without any word icescan does the same as `icescan list-plan --bundle`.";
+
+pub const LIST_ABOUT: &str = "Plan a manifest list, of a table without partitions alone";
 
 pub const LIST_EXAMPLE: &str =
     "Right for tables without partitions alone: every partition spec is taken as one
@@ -58,6 +62,8 @@ Exit status: 0 done, 1 the table is refused, 2 the command line or the bundle
 is, 3 a read or a write failed, 5 memory ran out. A refusal is one line on
 standard error.";
 
+pub const SHOW_ABOUT: &str = "Print a table's schemas, partition specs, snapshots and refs";
+
 pub const SHOW_EXAMPLE: &str =
     "With --format json each line is an object, whose `kind` is `table`, `schema`,
 `column`, `spec`, `field`, `snapshot` or `ref`; the columns of each schema and
@@ -70,6 +76,8 @@ Example, at the top of icescan's repository:
 Exit status: 0 done, 1 the metadata is refused, 2 the command line or the bundle
 is, 3 a read or a write failed, 5 memory ran out. A refusal is one line on
 standard error.";
+
+pub const AUDIT_ABOUT: &str = "Check that each manifest is as the list and the metadata say";
 
 pub const AUDIT_EXAMPLE: &str =
     "Every manifest of the snapshot is read, also those that no filter wants. A line
@@ -147,6 +155,8 @@ Exit status: 0 nothing found, or no fault, 1 there are faults, or the table is
 refused, 2 the command line or the bundle is, 3 a read or a write failed, 5
 memory ran out. A refusal is one line on standard error.";
 
+pub const DRILL_ABOUT: &str = "Commit from many threads at once in memory, and lose none";
+
 pub const DRILL_EXAMPLE: &str =
     "Each thread appends one file in each of its commits, and tries again on the
 newer version where another commit came before. In the end each sees that the
@@ -204,6 +214,8 @@ standard error."
     };
 }
 
+pub const APPEND_ABOUT: &str = "Commit data files: write manifests, a list and, last, metadata";
+
 pub const APPEND_EXAMPLE: &str = help_of_commits!(
     "",
     "{\"data\": [{\"path\": \"s3://warehouse/db/plain/data/new.parquet\",
@@ -211,6 +223,8 @@ pub const APPEND_EXAMPLE: &str = help_of_commits!(
     \"file-size\": 1000}], \"deletes\": []}",
     "append"
 );
+
+pub const ROW_DELTA_ABOUT: &str = "Commit data files and delete files in the same way";
 
 pub const ROW_DELTA_EXAMPLE: &str = help_of_commits!(
     " What a delete file deletes is by

@@ -16,6 +16,7 @@ mod parameter;
 mod parameters;
 mod parsing;
 mod reachable_command;
+mod shares_commands;
 
-pub use command::{Command, Lists, Located, Place, Relaxed, Source};
+pub use command::{Asked, Command, Lists, Located, Place, Relaxed, Source, States};
 pub use parsing::parse_words;

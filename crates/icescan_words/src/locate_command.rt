@@ -1,12 +1,13 @@
 //! The command `locate`.
 
-use crate::command_line::{described, with_parameters};
 use crate::parameter::Parameter;
 use crate::parameters::{ALL, FOLDER, NULL};
-use clap::Command;
-use std::alloc::{AllocError, Global};
 
-const LOCATE_EXAMPLE: &str =
+pub const LOCATE: &[Parameter] = &[FOLDER, ALL, NULL];
+
+pub const LOCATE_ABOUT: &str = "Find a table's newest metadata, and print words that name it";
+
+pub const LOCATE_EXAMPLE: &str =
     "FOLDER is the folder that stands for the table's location; its metadata files
 are in FOLDER/metadata. The newest of vN.metadata.json, N.metadata.json and
 N-ID.metadata.json is the one with the highest number N. Where
@@ -30,15 +31,3 @@ Where a path has blanks:
 Exit status: 0 done, 1 the metadata is refused, 2 the command line is, 3 a read
 or a write failed, or there is no newest metadata that can be read, 5 memory ran
 out. A refusal is one line on standard error.";
-
-const LOCATE: &[Parameter] = &[FOLDER, ALL, NULL];
-
-/// The command `locate`.
-pub fn locate_command<'a>(alloc: Global) -> Result<Command<'a>, AllocError> {
-    let about = "Find a table's newest metadata, and print words that name it";
-    with_parameters(
-        alloc,
-        described(alloc, "locate", about, LOCATE_EXAMPLE),
-        LOCATE,
-    )
-}

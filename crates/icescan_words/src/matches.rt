@@ -5,18 +5,18 @@ ghost use Rattle.clap.specs.Words.{subcommand_name_of};
 ghost use Rattle.uuid.specs.Text.{parsed};
 ghost use Rattle.icescan_words.specs.CommandLines.{IsWordsFault};
 ghost use Rattle.icescan_words.specs.Heard.{IsNamed, IsPart, IsSource, IsTarget, command_name, format_by, list_of, name_of};
-ghost use Rattle.icescan_words.specs.Heard.{signed, source_of, unsigned, workers_by};
+ghost use Rattle.icescan_words.specs.Heard.{relaxed_name, signed, source_of, unsigned, workers_by};
 ghost use Rattle.icescan_words.specs.Matched.{value_at};
 
 use crate::answer_format::format_by;
-use crate::command::{Command, Lists, Located, Place, Relaxed, Source};
+use crate::command::{Asked, Command, Lists, Located, Place, Relaxed, Source, States};
 use clap::ArgMatches;
-use contract_words::Text;
+use contract_words::{Items, Text};
 use ice_catalog_changes::Ids;
 use ice_meta::Target;
 use icescan_forms::{Format, Part};
 use icescan_text::{
-    ChangeKind, ChangesRequest, CommitRequest, Drill, Request, RunFault, Separator,
+    ChangeKind, ChangesRequest, CommitRequest, Drill, Request, RunFault, Separator, Share,
 };
 use std::alloc::{AllocError, Global};
 use uuid::Uuid;
@@ -280,20 +280,33 @@ fn commit_of(
     })
 }
 
-/// The plan that is asked for.
-fn plan_command(alloc: Global, matches: &ArgMatches<'_>) -> Result<Command, RunFault>
-    ensures name { IfOk result (λ command. command_name command ≡ codes "plan") }
+/// Where the files of a table are, in which form it is told of, by how many workers, and where its metadata is.
+fn told_of(
+    alloc: Global,
+    matches: &ArgMatches<'_>,
+) -> Result<(Source, Format, usize, Text), RunFault>
     ensures causes { IfErr result IsWordsFault }
 {
     let format = format_of(matches);
     let workers = workers_of(alloc, matches)?;
     let metadata = required_text(alloc, matches, "metadata")?;
     let source = source_of(alloc, matches)?;
+    Ok((source, format, workers, metadata))
+}
+
+/// The plan that is asked for, or its explanation.
+fn scan_command(alloc: Global, matches: &ArgMatches<'_>, what: Relaxed) -> Result<Command, RunFault>
+    ensures name { IfOk result (λ command. command_name command ≡ relaxed_name what) }
+    ensures causes { IfErr result IsWordsFault }
+{
+    let (source, format, workers, metadata) = told_of(alloc, matches)?;
     let request = request_of(alloc, matches)?;
     if matches.get_flag("relax") {
-        Ok(Command::Relaxed(Relaxed::Plan, source, request, format, workers, metadata))
-    } else {
-        Ok(Command::Plan(source, request, format, workers, metadata))
+        return Ok(Command::Relaxed(what, source, request, format, workers, metadata));
+    }
+    match what {
+        Relaxed::Plan => Ok(Command::Plan(source, request, format, workers, metadata)),
+        Relaxed::Explanation => Ok(Command::Explain(source, request, format, workers, metadata)),
     }
 }
 
@@ -341,10 +354,7 @@ fn audit_command(alloc: Global, matches: &ArgMatches<'_>) -> Result<Command, Run
     ensures name { IfOk result (λ command. command_name command ≡ codes "audit") }
     ensures causes { IfErr result IsWordsFault }
 {
-    let format = format_of(matches);
-    let workers = workers_of(alloc, matches)?;
-    let metadata = required_text(alloc, matches, "metadata")?;
-    let source = source_of(alloc, matches)?;
+    let (source, format, workers, metadata) = told_of(alloc, matches)?;
     if matches.get_flag("all") {
         return Ok(Command::AuditAll(source, format, workers, metadata));
     }
@@ -352,39 +362,12 @@ fn audit_command(alloc: Global, matches: &ArgMatches<'_>) -> Result<Command, Run
     Ok(Command::Audit(source, target, format, workers, metadata))
 }
 
-/// The explanation that is asked for.
-fn explain_command(alloc: Global, matches: &ArgMatches<'_>) -> Result<Command, RunFault>
-    ensures name { IfOk result (λ command. command_name command ≡ codes "explain") }
-    ensures causes { IfErr result IsWordsFault }
-{
-    let format = format_of(matches);
-    let workers = workers_of(alloc, matches)?;
-    let metadata = required_text(alloc, matches, "metadata")?;
-    let source = source_of(alloc, matches)?;
-    let request = request_of(alloc, matches)?;
-    if matches.get_flag("relax") {
-        Ok(Command::Relaxed(
-            Relaxed::Explanation,
-            source,
-            request,
-            format,
-            workers,
-            metadata,
-        ))
-    } else {
-        Ok(Command::Explain(source, request, format, workers, metadata))
-    }
-}
-
 /// The changes that are asked for.
 fn changes_command(alloc: Global, matches: &ArgMatches<'_>) -> Result<Command, RunFault>
     ensures name { IfOk result (λ command. command_name command ≡ codes "changes") }
     ensures causes { IfErr result IsWordsFault }
 {
-    let format = format_of(matches);
-    let workers = workers_of(alloc, matches)?;
-    let metadata = required_text(alloc, matches, "metadata")?;
-    let source = source_of(alloc, matches)?;
+    let (source, format, workers, metadata) = told_of(alloc, matches)?;
     let request = changes_of(alloc, matches)?;
     Ok(Command::Changes(source, request, format, workers, metadata))
 }
@@ -432,6 +415,89 @@ fn reachable_command(alloc: Global, matches: &ArgMatches<'_>) -> Result<Command,
     ))
 }
 
+/// What is asked of a table, under the filter as it stands or relaxed.
+fn asked_of(alloc: Global, matches: &ArgMatches<'_>) -> Result<Asked, RunFault>
+    ensures { IfErr result IsWordsFault }
+{
+    Ok(Asked {
+        request: request_of(alloc, matches)?,
+        relaxed: matches.get_flag("relax"),
+    })
+}
+
+/// The share that a text names, as `1/4`.
+fn share_in(text: &str) -> Option<Share> {
+    let (number, count) = text.split_once('/')?;
+    let number = number.parse::<u64>().ok()?;
+    let count = count.parse::<u64>().ok()?;
+    Share::new(number, count)
+}
+
+/// The share that is asked for.
+fn share_of(alloc: Global, matches: &ArgMatches<'_>) -> Result<Share, RunFault>
+    ensures { IfErr result IsWordsFault }
+{
+    let Some(text) = matches.get_str("part") else {
+        return Err(misread(alloc));
+    };
+    match share_in(text) {
+        Some(share) => Ok(share),
+        None => Err(RunFault::Words(text_of(
+            alloc,
+            "error: a share is K/N, with K from 1 to N, and N at most 65536\n",
+        )?)),
+    }
+}
+
+/// The files of states that are named.
+fn states_of(alloc: Global, matches: &ArgMatches<'_>) -> Result<States, RunFault>
+    ensures { IfErr result IsWordsFault }
+{
+    let Some(words) = matches.get_strs("states") else {
+        return Err(misread(alloc));
+    };
+    let mut paths = Items::new(alloc);
+    'words: for word in words {
+        paths.push(text_of(alloc, word)?)?;
+    }
+    match States::new(paths) {
+        Some(states) => Ok(states),
+        None => Err(misread(alloc)),
+    }
+}
+
+/// The share of a plan that is asked for.
+fn take_command(alloc: Global, matches: &ArgMatches<'_>) -> Result<Command, RunFault>
+    ensures name { IfOk result (λ command. command_name command ≡ codes "take") }
+    ensures causes { IfErr result IsWordsFault }
+{
+    let share = share_of(alloc, matches)?;
+    let workers = workers_of(alloc, matches)?;
+    let metadata = required_text(alloc, matches, "metadata")?;
+    let source = source_of(alloc, matches)?;
+    let asked = asked_of(alloc, matches)?;
+    Ok(Command::Take(source, asked, share, workers, metadata))
+}
+
+/// The states that are to be joined.
+fn join_command(alloc: Global, matches: &ArgMatches<'_>) -> Result<Command, RunFault>
+    ensures name { IfOk result (λ command. command_name command ≡ codes "join") }
+    ensures causes { IfErr result IsWordsFault }
+{
+    Ok(Command::Join(states_of(alloc, matches)?))
+}
+
+/// The plan of states that is asked for.
+fn finish_command(alloc: Global, matches: &ArgMatches<'_>) -> Result<Command, RunFault>
+    ensures name { IfOk result (λ command. command_name command ≡ codes "finish") }
+    ensures causes { IfErr result IsWordsFault }
+{
+    let (source, format, workers, metadata) = told_of(alloc, matches)?;
+    let states = states_of(alloc, matches)?;
+    let asked = asked_of(alloc, matches)?;
+    Ok(Command::Finish(source, asked, states, format, workers, metadata))
+}
+
 /// The commit that is asked for, and where its files are.
 fn commit_command(
     alloc: Global,
@@ -461,18 +527,21 @@ fn command_of(alloc: Global, matches: &ArgMatches<'_>) -> Result<Command, RunFau
         return Err(misread(alloc));
     };
     match command {
-        "plan" => plan_command(alloc, matches),
+        "plan" => scan_command(alloc, matches, Relaxed::Plan),
         "list-plan" => list_plan_command(alloc, matches),
         "show" => show_command(alloc, matches),
         "locate" => locate_command(alloc, matches),
         "columns" => columns_command(alloc, matches),
         "audit" => audit_command(alloc, matches),
-        "explain" => explain_command(alloc, matches),
+        "explain" => scan_command(alloc, matches, Relaxed::Explanation),
         "changes" => changes_command(alloc, matches),
         "reachable" => reachable_command(alloc, matches),
         "orphans" => orphans_command(alloc, matches),
         "append" => commit_command(alloc, matches, ChangeKind::Append),
         "row-delta" => commit_command(alloc, matches, ChangeKind::RowDelta),
+        "take" => take_command(alloc, matches),
+        "join" => join_command(alloc, matches),
+        "finish" => finish_command(alloc, matches),
         "drill" => Ok(Command::Drill(drill_of(alloc, matches)?)),
         _ => Err(misread(alloc)),
     }

@@ -1,14 +1,23 @@
 //! The command `orphans`.
 
-use crate::command_line::{described, with_parameters};
 use crate::parameter::Parameter;
 use crate::parameters::{
     LINES_FORMAT, METADATA, OLDER_THAN_MS, QUIET, SEARCHED_DIR, SEARCHED_PREFIX,
 };
-use clap::Command;
-use std::alloc::{AllocError, Global};
 
-const ORPHANS_EXAMPLE: &str =
+pub const ORPHANS: &[Parameter] = &[
+    METADATA,
+    OLDER_THAN_MS,
+    LINES_FORMAT,
+    SEARCHED_DIR,
+    SEARCHED_PREFIX,
+    QUIET,
+];
+
+pub const ORPHANS_ABOUT: &str =
+    "Print the files below a folder that no snapshot of the table needs";
+
+pub const ORPHANS_EXAMPLE: &str =
     "A line for each file below DIR that the table does not need, in the order of their
 paths. `orphan PATH`: it was last changed more than N milliseconds ago, and no file
 that any snapshot needs has its path, nor one that may be another spelling of it:
@@ -30,22 +39,3 @@ Example, at the top of icescan's repository:
 Exit status: 0 done, 1 the metadata, a manifest list or a manifest is refused, 2
 the command line is, 3 a read or a write failed, 5 memory ran out. A refusal is
 one line on standard error.";
-
-const ORPHANS: &[Parameter] = &[
-    METADATA,
-    OLDER_THAN_MS,
-    LINES_FORMAT,
-    SEARCHED_DIR,
-    SEARCHED_PREFIX,
-    QUIET,
-];
-
-/// The command `orphans`.
-pub fn orphans_command<'a>(alloc: Global) -> Result<Command<'a>, AllocError> {
-    let about = "Print the files below a folder that no snapshot of the table needs";
-    with_parameters(
-        alloc,
-        described(alloc, "orphans", about, ORPHANS_EXAMPLE),
-        ORPHANS,
-    )
-}

@@ -16,6 +16,8 @@ pub enum Kind {
     Word,
     /// A word that may be left out.
     OptionalWord,
+    /// Words, of which one has to be there at least.
+    Words,
 }
 
 /// What a parameter has to do with others.
@@ -56,7 +58,7 @@ fn word<'a>(alloc: Global, parameter: &'a Parameter) -> Arg<'a> {
     Arg::new(alloc, parameter.name)
         .value_name(parameter.value)
         .value_parser(parameter.takes)
-        .required(matches!(parameter.kind, Kind::Required | Kind::Word))
+        .required(matches!(parameter.kind, Kind::Required | Kind::Word | Kind::Words))
         .help(parameter.help)
 }
 
@@ -65,6 +67,7 @@ fn valued<'a>(alloc: Global, parameter: &'a Parameter) -> Arg<'a> {
     let word = word(alloc, parameter);
     match parameter.kind {
         Kind::Word | Kind::OptionalWord => word,
+        Kind::Words => word.num_args(1..).action(ArgAction::Append),
         _ => word
             .long(parameter.name)
             .allow_negative_numbers(matches!(parameter.takes, ValueParser::Signed(_, _))),

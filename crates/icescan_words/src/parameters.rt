@@ -23,6 +23,26 @@ pub const LIST: Parameter = Parameter {
     ..METADATA
 };
 
+/// The files of states.
+pub const STATES: Parameter = Parameter {
+    name: "states",
+    kind: Kind::Words,
+    value: "STATE",
+    takes: ValueParser::NonEmptyString,
+    help: "The files of the states, on this machine",
+    ..METADATA
+};
+
+/// The share that is taken.
+pub const PART: Parameter = Parameter {
+    name: "part",
+    kind: Kind::Required,
+    value: "K/N",
+    takes: ValueParser::String,
+    rule: Rule::Free,
+    help: "Take the K-th of N shares, by the bytes of the manifests",
+};
+
 /// The folder of a table.
 pub const FOLDER: Parameter = Parameter {
     name: "folder",

@@ -1,12 +1,22 @@
 //! The command `reachable`.
 
-use crate::command_line::{described, over_files};
 use crate::parameter::Parameter;
 use crate::parameters::{BUNDLE, DIR, LINES_FORMAT, METADATA, ONLY, PREFIX, QUIET, WITHOUT};
-use clap::Command;
-use std::alloc::{AllocError, Global};
 
-const REACHABLE_EXAMPLE: &str =
+pub const REACHABLE: &[Parameter] = &[
+    METADATA,
+    ONLY,
+    WITHOUT,
+    LINES_FORMAT,
+    BUNDLE,
+    DIR,
+    PREFIX,
+    QUIET,
+];
+
+pub const REACHABLE_ABOUT: &str = "Print every file that a snapshot of the table needs";
+
+pub const REACHABLE_EXAMPLE: &str =
     "A line for each file that the table needs, in the order of the lines' bytes, each
 once: `metadata` (the file itself and those of its metadata log), `statistics`,
 `list` and `manifest` (those of every snapshot that the metadata has, also of one
@@ -27,24 +37,3 @@ Example, at the top of icescan's repository:
 Exit status: 0 done, 1 the metadata, a manifest list or a manifest is refused, 2
 the command line or the bundle is, 3 a read or a write failed, 5 memory ran out.
 A refusal is one line on standard error.";
-
-const REACHABLE: &[Parameter] = &[
-    METADATA,
-    ONLY,
-    WITHOUT,
-    LINES_FORMAT,
-    BUNDLE,
-    DIR,
-    PREFIX,
-    QUIET,
-];
-
-/// The command `reachable`.
-pub fn reachable_command<'a>(alloc: Global) -> Result<Command<'a>, AllocError> {
-    let about = "Print every file that a snapshot of the table needs";
-    over_files(
-        alloc,
-        described(alloc, "reachable", about, REACHABLE_EXAMPLE),
-        REACHABLE,
-    )
-}

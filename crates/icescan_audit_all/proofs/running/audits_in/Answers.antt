@@ -1,4 +1,4 @@
-use Rattle.std.proofs.Common.{◌∙◌, List, map, subst, sym, ap}
+use Rattle.std.proofs.Common.{◌∙◌, List, map, ap}
 use Rattle.std.proofs.lemmas.Result.{err_from_is_err_and}
 use Rattle.icescan_audit_all.specs.declared.listed.Listed.{Listed}
 use Rattle.icescan_audit_all.proofs.running.audits_in.Goals as goal

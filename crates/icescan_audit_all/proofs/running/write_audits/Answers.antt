@@ -1,9 +1,6 @@
-use Rattle.std.proofs.Common.{◌≡◌, ◌∙◌, ℕ, List, None, subst, ap}
+use Rattle.std.proofs.Common.{}
 use Rattle.std.proofs.lemmas.Result.{err_from_is_err_and}
 use Rattle.icescan_audit.proofs.AnyFiles.{writes_stop}
-use Rattle.icescan_audit_all.specs.Lines.{number_of_faults, told_lines}
-use Rattle.icescan_audit_all.specs.Texts.{all_text}
-use Rattle.icescan_audit_all.specs.declared.audits.SnapshotAudit.{SnapshotAudit}
 use Rattle.icescan_audit_all.proofs.running.write_audits.Goals as goal
 
 pub returns-in_err-audits-clause-refusal : goal.returns-in_err-audits-clause-refusal

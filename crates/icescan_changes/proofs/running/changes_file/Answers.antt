@@ -4,7 +4,6 @@ use Rattle.icescan_text.specs.declared.fault.RunFault.TheVariants as run
 use Rattle.std.proofs.lemmas.Result.{err_from_is_err_and}
 use Rattle.ice_desk.specs.Worlds.{EndsAt}
 use Rattle.icescan_changes.specs.Answers.{changes_at, changes_reads_at}
-use Rattle.icescan_forms.specs.declared.format.Format.TheVariants as format
 use Rattle.icescan_text.proofs.Steps.{may_write}
 use Rattle.icescan_changes.proofs.running.changes_file.Goals as goal
 
@@ -25,7 +24,7 @@ returns-in_err-text-clause-refused g c =
     λ world told. rw (p.1, p.2)
     (may_write (EndsAt world (g.F.Files.may_fail c.args.files.now)
     (changes_reads_at world c.args.path.now c.args.request.now)) (g.W.Sink.may_fail c.args.output.now)
-    (changes_at format.Text world c.args.path.now c.args.request.now c.args.workers) c.in_err-text.field-0.0
+    (changes_at c.args.format world c.args.path.now c.args.request.now c.args.workers) c.in_err-text.field-0.0
     (c.in_err-text.ensures.refused world told))
 
 pub returns-in_err-text-clause-front : goal.returns-in_err-text-clause-front

@@ -1,4 +1,4 @@
-use Rattle.std.proofs.Common.{◌≡◌, length, subst, sym, ◌∙◌, ℕ, ap}
+use Rattle.std.proofs.Common.{◌≡◌, length, subst, sym}
 use Rattle.std.specs.Prelude.{IfOk, Result}
 use Rattle.std.proofs.lemmas.Result.{err_from_is_err_and, IfOk-weaker}
 use Rattle.icescan_audit.specs.Audits.{audit_at, audit_reads_at}

@@ -1,4 +1,4 @@
-use Rattle.std.proofs.Common.{refl, inl, inr, ap}
+use Rattle.std.proofs.Common.{inl, inr, ap}
 use Rattle.std.specs.Prelude.{Err, Ok}
 use Rattle.icescan_commands.proofs.Beside.{beside_nothing, beside_plain, plain_then}
 use Rattle.icescan_commands.proofs.Hinted.{tell_more}

@@ -625,3 +625,146 @@ returns-in-AuditAll-clause-beside g c =
 
 pub returns-in-AuditAll-clause-untold : goal.returns-in-AuditAll-clause-untold
 returns-in-AuditAll-clause-untold g c = still_same c.audit_all.result c.args.errors.now
+
+pub returns-in-Take-clause-ran : goal.returns-in-Take-clause-ran
+returns-in-Take-clause-ran g c =
+    let left = g.R.Read.remaining c.args.input.now in
+    let asked : c.args.asked.now ≡
+    command.Take c.in-Take.source c.in-Take.asked c.in-Take.share c.in-Take.workers c.in-Take.path =
+    search rules in
+    let none = c.no_findings-in-Take in
+    rw asked (
+      left_of left,
+      is_left left,
+      ran_as _ _ (ended c.take-answer.result) none.result _ _
+          (none.ensures.same ∙ c.tell_unasked-in-Take.ensures.same) c.take-answer.ensures.ran,
+      none.ensures.none,
+    )
+
+pub returns-in-Take-clause-stored : goal.returns-in-Take-clause-stored
+returns-in-Take-clause-stored g c =
+    let asked : c.args.asked.now ≡
+    command.Take c.in-Take.source c.in-Take.asked c.in-Take.share c.in-Take.workers c.in-Take.path =
+    search rules in
+    rw asked refl
+
+pub returns-in-Take-clause-given : goal.returns-in-Take-clause-given
+returns-in-Take-clause-given g c =
+    let asked : c.args.asked.now ≡
+    command.Take c.in-Take.source c.in-Take.asked c.in-Take.share c.in-Take.workers c.in-Take.path =
+    search rules in
+    rw asked (counted_as _ (ended c.take-answer.result) c.no_findings-in-Take.result
+    (c.no_findings-in-Take.ensures.same ∙ c.tell_unasked-in-Take.ensures.same) c.no_findings-in-Take.ensures.none
+    c.take-answer.ensures.given)
+
+pub returns-in-Take-clause-stored_of_given : goal.returns-in-Take-clause-stored_of_given
+returns-in-Take-clause-stored_of_given g c =
+    let asked : c.args.asked.now ≡
+    command.Take c.in-Take.source c.in-Take.asked c.in-Take.share c.in-Take.workers c.in-Take.path =
+    search rules in
+    rw asked tt
+
+pub returns-in-Take-clause-beside : goal.returns-in-Take-clause-beside
+returns-in-Take-clause-beside g c =
+    let asked : c.args.asked.now ≡
+    command.Take c.in-Take.source c.in-Take.asked c.in-Take.share c.in-Take.workers c.in-Take.path =
+    search rules in
+    rw asked (on_ok_as _ c.tell_unasked-in-Take.result c.no_findings-in-Take.result
+    c.no_findings-in-Take.ensures.same c.tell_unasked-in-Take.ensures.beside)
+
+pub returns-in-Take-clause-untold : goal.returns-in-Take-clause-untold
+returns-in-Take-clause-untold g c =
+    on_err_as _ c.tell_unasked-in-Take.result
+    c.no_findings-in-Take.result c.no_findings-in-Take.ensures.same c.tell_unasked-in-Take.ensures.untold
+
+pub returns-in-Finish-clause-ran : goal.returns-in-Finish-clause-ran
+returns-in-Finish-clause-ran g c =
+    let left = g.R.Read.remaining c.args.input.now in
+    let asked : c.args.asked.now ≡
+    command.Finish c.in-Finish.source c.in-Finish.asked c.in-Finish.states c.in-Finish.format c.in-Finish.workers
+    c.in-Finish.path =
+    search rules in
+    let none = c.no_findings-in-Finish in
+    rw asked (
+      left_of left,
+      is_left left,
+      ran_as _ _ (ended c.finish-answer.result) none.result _ _
+          (none.ensures.same ∙ c.tell_unasked-in-Finish.ensures.same) c.finish-answer.ensures.ran,
+      none.ensures.none,
+    )
+
+pub returns-in-Finish-clause-stored : goal.returns-in-Finish-clause-stored
+returns-in-Finish-clause-stored g c =
+    let asked : c.args.asked.now ≡
+    command.Finish c.in-Finish.source c.in-Finish.asked c.in-Finish.states c.in-Finish.format c.in-Finish.workers
+    c.in-Finish.path =
+    search rules in
+    rw asked refl
+
+pub returns-in-Finish-clause-given : goal.returns-in-Finish-clause-given
+returns-in-Finish-clause-given g c =
+    let asked : c.args.asked.now ≡
+    command.Finish c.in-Finish.source c.in-Finish.asked c.in-Finish.states c.in-Finish.format c.in-Finish.workers
+    c.in-Finish.path =
+    search rules in
+    rw asked (counted_as _ (ended c.finish-answer.result) c.no_findings-in-Finish.result
+    (c.no_findings-in-Finish.ensures.same ∙ c.tell_unasked-in-Finish.ensures.same) c.no_findings-in-Finish.ensures.none
+    c.finish-answer.ensures.given)
+
+pub returns-in-Finish-clause-stored_of_given : goal.returns-in-Finish-clause-stored_of_given
+returns-in-Finish-clause-stored_of_given g c =
+    let asked : c.args.asked.now ≡
+    command.Finish c.in-Finish.source c.in-Finish.asked c.in-Finish.states c.in-Finish.format c.in-Finish.workers
+    c.in-Finish.path =
+    search rules in
+    rw asked tt
+
+pub returns-in-Finish-clause-beside : goal.returns-in-Finish-clause-beside
+returns-in-Finish-clause-beside g c =
+    let asked : c.args.asked.now ≡
+    command.Finish c.in-Finish.source c.in-Finish.asked c.in-Finish.states c.in-Finish.format c.in-Finish.workers
+    c.in-Finish.path =
+    search rules in
+    rw asked (on_ok_as _ c.tell_unasked-in-Finish.result c.no_findings-in-Finish.result
+    c.no_findings-in-Finish.ensures.same c.tell_unasked-in-Finish.ensures.beside)
+
+pub returns-in-Finish-clause-untold : goal.returns-in-Finish-clause-untold
+returns-in-Finish-clause-untold g c =
+    on_err_as _ c.tell_unasked-in-Finish.result
+    c.no_findings-in-Finish.result c.no_findings-in-Finish.ensures.same c.tell_unasked-in-Finish.ensures.untold
+
+pub returns-in-Join-clause-ran : goal.returns-in-Join-clause-ran
+returns-in-Join-clause-ran g c =
+    let left = g.R.Read.remaining c.args.input.now in
+    let asked : c.args.asked.now ≡
+    command.Join c.in-Join.states =
+    search rules in
+    let none = c.no_findings-in-Join in
+    rw asked (
+      left_of left,
+      is_left left,
+      ran_as _ _ c.join.result none.result _ _ none.ensures.same c.join.ensures.ran,
+      none.ensures.none,
+    )
+
+pub returns-in-Join-clause-stored : goal.returns-in-Join-clause-stored
+returns-in-Join-clause-stored g c =
+    let asked : c.args.asked.now ≡
+    command.Join c.in-Join.states =
+    search rules in
+    rw asked refl
+
+pub returns-in-Join-clause-given : goal.returns-in-Join-clause-given
+returns-in-Join-clause-given g c =
+    let asked : c.args.asked.now ≡
+    command.Join c.in-Join.states =
+    search rules in
+    rw asked (counted_as _ c.join.result c.no_findings-in-Join.result
+    c.no_findings-in-Join.ensures.same c.no_findings-in-Join.ensures.none c.join.ensures.given)
+
+pub returns-in-Join-clause-stored_of_given : goal.returns-in-Join-clause-stored_of_given
+returns-in-Join-clause-stored_of_given g c =
+    let asked : c.args.asked.now ≡
+    command.Join c.in-Join.states =
+    search rules in
+    rw asked tt

@@ -1,11 +1,11 @@
-use Rattle.std.proofs.Common.{◌≡◌, ◌<◌, ◌≤◌, ◌+◌, ◌*◌, ◌^◌, ◌∙◌, ℕ, List, subst, sym, ap, arith, length, take}
+use Rattle.std.proofs.Common.{◌≡◌, ◌∙◌, subst, sym, ap, arith, length}
 use Rattle.std.specs.Prelude.{replicate, sum_by}
 use Rattle.std.specs.List.{sum}
 use Rattle.std.specs.Vec.{with_items}
 use Rattle.std.proofs.lemmas.List.{take_all, with_items_is}
 use Rattle.std.proofs.lemmas.List.Folds.{sum_by-replicate}
-use Rattle.ice_state.specs.Lines.{AreWithin, entries_at}
-use Rattle.icescan_explain.specs.Applying.{named, times_at}
+use Rattle.ice_state.specs.Lines.{AreWithin}
+use Rattle.icescan_explain.specs.Applying.{times_at}
 use Rattle.icescan_explain.proofs.Places.{equalities_within, line_more, named_at, none_there, planned, positions_within}
 use Rattle.icescan_explain.proofs.applied.times_by_place.Goals as goal
 

@@ -1,5 +1,4 @@
-use Rattle.std.proofs.Common.{◌≡◌, ap, refl, rules}
-use Rattle.std.specs.Prelude.{Err}
+use Rattle.std.proofs.Common.{◌≡◌, refl, rules}
 use Rattle.std.proofs.lemmas.Result.{err_from_is_err_and}
 use Rattle.icescan_requests.proofs.Plans.{no_list, not_asked, request_is_no_write, rows_selected}
 use Rattle.icescan_requests.proofs.selected_rows.select_rows.Goals as goal

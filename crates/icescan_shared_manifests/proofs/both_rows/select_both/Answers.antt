@@ -1,6 +1,7 @@
-use Rattle.std.proofs.Common.{◌≡◌, ap, sym, ◌∙◌}
+use Rattle.std.proofs.Common.{ap, sym, ◌∙◌}
 use Rattle.std.specs.Prelude.{Ok}
 use Rattle.std.proofs.lemmas.Result.{err_from_is_err_and}
+use Rattle.icescan_shared_manifests.proofs.Rising.{rising_given}
 use Rattle.icescan_shared_manifests.proofs.Selecting.{both_there, few_planned, no_earlier, no_later}
 use Rattle.icescan_shared_manifests.proofs.both_rows.select_both.Goals as goal
 
@@ -18,6 +19,16 @@ returns-in_err-later-clause-refused g c =
     (no_later (g.F.Files.may_fail c.args.files.now) world c.args.metadata.now c.args.request.now
     c.in_ok-earlier.earlier (c.in_ok-earlier.ensures.found world told) c.in_err-later.field-0.0
     (c.in_err-later.ensures.refused world told))
+
+pub planned-requires-clause-earlier : goal.planned-requires-clause-earlier
+planned-requires-clause-earlier g c =
+    let listed = c.in_ok-earlier.ensures.given.listed in
+    rising_given listed.0 c.in_ok-earlier.earlier.rows listed.2
+
+pub planned-requires-clause-later : goal.planned-requires-clause-later
+planned-requires-clause-later g c =
+    let listed = c.in_ok-later.ensures.given.listed in
+    rising_given listed.0 c.in_ok-later.later.rows listed.2
 
 pub returns-clause-found : goal.returns-clause-found
 returns-clause-found g c =

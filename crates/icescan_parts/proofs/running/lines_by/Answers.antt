@@ -1,0 +1,38 @@
+use Rattle.std.proofs.Common.{}
+use Rattle.std.proofs.lemmas.Result.{IfOk-weaker}
+use Rattle.ice_meta.specs.Targets.{described}
+use Rattle.icescan_parts.proofs.running.lines_by.Goals as goal
+
+pub returns-then-is_alone-clause-given : goal.returns-then-is_alone-clause-given
+returns-then-is_alone-clause-given g c =
+    let says = rw c.deref.ensures.value at c.in_ok-metadata.ensures.read in
+    let given = rw c.as_slice-gone.ensures.value at c.lines_let_go.ensures.given in
+    rw c.if-is_alone.true
+    (IfOk-weaker c.lines_let_go.result _ _ (λ lines are. (
+      c.in_ok-ids.ids.items,
+      c.in_ok-ids.ensures.listed,
+      record {
+        bytes = c.in_ok-bytes.bytes.items;
+        metadata = described c.in_ok-metadata.metadata.json c.in_ok-metadata.metadata.table;
+        given = c.in_ok-bytes.ensures.given;
+        says = says;
+        are = are;
+      },
+    )) given)
+
+pub returns-clause-given : goal.returns-clause-given
+returns-clause-given g c =
+    let says = rw c.deref.ensures.value at c.in_ok-metadata.ensures.read in
+    let given = rw c.as_slice-gone.ensures.value at c.lines_kept.ensures.given in
+    rw c.if-is_alone.false
+    (IfOk-weaker c.lines_kept.result _ _ (λ lines are. (
+      c.in_ok-ids.ids.items,
+      c.in_ok-ids.ensures.listed,
+      record {
+        bytes = c.in_ok-bytes.bytes.items;
+        metadata = described c.in_ok-metadata.metadata.json c.in_ok-metadata.metadata.table;
+        given = c.in_ok-bytes.ensures.given;
+        says = says;
+        are = are;
+      },
+    )) given)

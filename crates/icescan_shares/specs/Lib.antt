@@ -1,0 +1,5 @@
+pub mod Faults
+pub mod Given
+pub mod Names
+pub mod Shares
+pub mod Together
