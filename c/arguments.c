@@ -176,6 +176,82 @@ uint32_t icescan_columns_new_at(icescan_handle *columns, const uint8_t *metadata
     return proved_icescan_columns_new_at(columns, some(metadata), metadata_len, snapshot);
 }
 
+uint32_t icescan_audit_new(icescan_handle *audit, const uint8_t *metadata, size_t metadata_len, const uint8_t *name,
+                           size_t name_len) {
+    if (!audit || lacks(metadata, metadata_len) || lacks(name, name_len))
+        return ICESCAN_NULL;
+    return proved_icescan_audit_new(audit, some(metadata), metadata_len, some(name), name_len);
+}
+
+uint32_t icescan_audit_new_at(icescan_handle *audit, const uint8_t *metadata, size_t metadata_len, int64_t snapshot) {
+    if (!audit || lacks(metadata, metadata_len))
+        return ICESCAN_NULL;
+    return proved_icescan_audit_new_at(audit, some(metadata), metadata_len, snapshot);
+}
+
+uint32_t icescan_audit_take(icescan_handle *audit, const uint8_t *manifest, size_t manifest_len) {
+    if (!audit || lacks(manifest, manifest_len))
+        return ICESCAN_NULL;
+    return proved_icescan_audit_take(audit, some(manifest), manifest_len);
+}
+
+uint32_t icescan_commit_new(icescan_handle *commit, const uint8_t *metadata, size_t metadata_len, const uint8_t *change,
+                            size_t change_len, int64_t snapshot, uint64_t uuid_high, uint64_t uuid_low,
+                            int64_t now_ms) {
+    if (!commit || lacks(metadata, metadata_len) || lacks(change, change_len))
+        return ICESCAN_NULL;
+    return proved_icescan_commit_new(commit, some(metadata), metadata_len, some(change), change_len, snapshot,
+                                     uuid_high, uuid_low, now_ms);
+}
+
+uint32_t icescan_commit_wanted(icescan_handle *commit, icescan_bytes *path) {
+    return commit && path ? proved_icescan_commit_wanted(commit, path) : ICESCAN_NULL;
+}
+
+uint32_t icescan_commit_take(icescan_handle *commit, const uint8_t *bytes, size_t bytes_len) {
+    if (!commit || lacks(bytes, bytes_len))
+        return ICESCAN_NULL;
+    return proved_icescan_commit_take(commit, some(bytes), bytes_len);
+}
+
+uint32_t icescan_commit_count(icescan_handle *commit, size_t *count) {
+    return commit && count ? proved_icescan_commit_count(commit, count) : ICESCAN_NULL;
+}
+
+uint32_t icescan_commit_file(icescan_handle *commit, size_t i, icescan_bytes *path, icescan_bytes *bytes) {
+    return commit && path && bytes ? proved_icescan_commit_file(commit, i, path, bytes) : ICESCAN_NULL;
+}
+
+uint32_t icescan_commit_metadata(icescan_handle *commit, icescan_bytes *bytes) {
+    return commit && bytes ? proved_icescan_commit_metadata(commit, bytes) : ICESCAN_NULL;
+}
+
+uint32_t icescan_explanation_new(icescan_handle *explanation, const uint8_t *metadata, size_t metadata_len,
+                                 const uint8_t *name, size_t name_len, const uint8_t *filter, size_t filter_len) {
+    if (!explanation || lacks(metadata, metadata_len) || lacks(name, name_len) || lacks(filter, filter_len))
+        return ICESCAN_NULL;
+    return proved_icescan_explanation_new(explanation, some(metadata), metadata_len, some(name), name_len,
+                                          some(filter), filter_len);
+}
+
+uint32_t icescan_explanation_new_at(icescan_handle *explanation, const uint8_t *metadata, size_t metadata_len,
+                                    int64_t snapshot, const uint8_t *filter, size_t filter_len) {
+    if (!explanation || lacks(metadata, metadata_len) || lacks(filter, filter_len))
+        return ICESCAN_NULL;
+    return proved_icescan_explanation_new_at(explanation, some(metadata), metadata_len, snapshot, some(filter),
+                                             filter_len);
+}
+
+uint32_t icescan_explanation_wanted(icescan_handle *explanation, icescan_bytes *path) {
+    return explanation && path ? proved_icescan_explanation_wanted(explanation, path) : ICESCAN_NULL;
+}
+
+uint32_t icescan_explanation_take(icescan_handle *explanation, const uint8_t *bytes, size_t bytes_len) {
+    if (!explanation || lacks(bytes, bytes_len))
+        return ICESCAN_NULL;
+    return proved_icescan_explanation_take(explanation, some(bytes), bytes_len);
+}
+
 uint32_t icescan_text(icescan_handle *handle, icescan_bytes *text) {
     return handle && text ? proved_icescan_text(handle, text) : ICESCAN_NULL;
 }
@@ -186,6 +262,10 @@ uint32_t icescan_fault(icescan_handle *handle, icescan_bytes *line) {
 
 uint32_t icescan_reason(icescan_handle *handle, icescan_reason_of *reason) {
     return handle && reason ? proved_icescan_reason(handle, reason) : ICESCAN_NULL;
+}
+
+uint32_t icescan_hint(icescan_handle *handle, icescan_bytes *lines) {
+    return handle && lines ? proved_icescan_hint(handle, lines) : ICESCAN_NULL;
 }
 
 void icescan_free(icescan_handle *handle) {

@@ -38,9 +38,30 @@ uint32_t proved_icescan_columns_new(icescan_handle *columns, const uint8_t *meta
                                     const uint8_t *name, size_t name_len);
 uint32_t proved_icescan_columns_new_at(icescan_handle *columns, const uint8_t *metadata, size_t metadata_len,
                                        int64_t snapshot);
+uint32_t proved_icescan_audit_new(icescan_handle *audit, const uint8_t *metadata, size_t metadata_len,
+                                  const uint8_t *name, size_t name_len);
+uint32_t proved_icescan_audit_new_at(icescan_handle *audit, const uint8_t *metadata, size_t metadata_len,
+                                     int64_t snapshot);
+uint32_t proved_icescan_audit_take(icescan_handle *audit, const uint8_t *manifest, size_t manifest_len);
+uint32_t proved_icescan_commit_new(icescan_handle *commit, const uint8_t *metadata, size_t metadata_len,
+                                   const uint8_t *change, size_t change_len, int64_t snapshot, uint64_t uuid_high,
+                                   uint64_t uuid_low, int64_t now_ms);
+uint32_t proved_icescan_commit_wanted(icescan_handle *commit, icescan_bytes *path);
+uint32_t proved_icescan_commit_take(icescan_handle *commit, const uint8_t *bytes, size_t bytes_len);
+uint32_t proved_icescan_commit_count(icescan_handle *commit, size_t *count);
+uint32_t proved_icescan_commit_file(icescan_handle *commit, size_t i, icescan_bytes *path, icescan_bytes *bytes);
+uint32_t proved_icescan_commit_metadata(icescan_handle *commit, icescan_bytes *bytes);
+uint32_t proved_icescan_explanation_new(icescan_handle *explanation, const uint8_t *metadata, size_t metadata_len,
+                                        const uint8_t *name, size_t name_len, const uint8_t *filter,
+                                        size_t filter_len);
+uint32_t proved_icescan_explanation_new_at(icescan_handle *explanation, const uint8_t *metadata, size_t metadata_len,
+                                           int64_t snapshot, const uint8_t *filter, size_t filter_len);
+uint32_t proved_icescan_explanation_wanted(icescan_handle *explanation, icescan_bytes *path);
+uint32_t proved_icescan_explanation_take(icescan_handle *explanation, const uint8_t *bytes, size_t bytes_len);
 uint32_t proved_icescan_text(icescan_handle *handle, icescan_bytes *text);
 uint32_t proved_icescan_fault(icescan_handle *handle, icescan_bytes *line);
 uint32_t proved_icescan_reason(icescan_handle *handle, icescan_reason_of *reason);
+uint32_t proved_icescan_hint(icescan_handle *handle, icescan_bytes *lines);
 void proved_icescan_free(icescan_handle *handle);
 
 #endif

@@ -85,9 +85,16 @@ static void nothing(const char *what, icescan_handle *none) {
     want(what, icescan_relax_count(none, &count), ICESCAN_KIND);
     want(what, icescan_relax_unasked(none, 0, &bytes), ICESCAN_KIND);
     want(what, icescan_plan_json(none, &other), ICESCAN_KIND);
+    want(what, icescan_audit_take(none, text("x"), 1), ICESCAN_KIND);
+    want(what, icescan_commit_wanted(none, &bytes), ICESCAN_KIND);
+    want(what, icescan_commit_take(none, text("x"), 1), ICESCAN_KIND);
+    want(what, icescan_commit_count(none, &count), ICESCAN_KIND);
+    want(what, icescan_commit_file(none, 0, &bytes, &bytes), ICESCAN_KIND);
+    want(what, icescan_commit_metadata(none, &bytes), ICESCAN_KIND);
     want(what, icescan_text(none, &bytes), ICESCAN_KIND);
     want(what, icescan_fault(none, &bytes), ICESCAN_KIND);
     want(what, icescan_reason(none, &reason), ICESCAN_KIND);
+    want(what, icescan_hint(none, &bytes), ICESCAN_KIND);
     if (other.held || bytes.len != 6 || count != 77 || file.record_count != 77 || value.whole != 77 ||
         reason.letter != 77 || reason.number != 77)
         want(what, 1, 0);
@@ -146,6 +153,8 @@ static void null(icescan_handle *scan) {
     want("null text", icescan_text(scan, NULL), ICESCAN_NULL);
     want("null handle", icescan_reason(NULL, &reason), ICESCAN_NULL);
     want("null reason", icescan_reason(scan, NULL), ICESCAN_NULL);
+    want("null handle", icescan_hint(NULL, &bytes), ICESCAN_NULL);
+    want("null lines", icescan_hint(scan, NULL), ICESCAN_NULL);
     want("null handle", icescan_fault(NULL, &bytes), ICESCAN_NULL);
     want("null line", icescan_fault(scan, NULL), ICESCAN_NULL);
     icescan_free(NULL);
@@ -178,11 +187,17 @@ static void relaxed(struct file metadata) {
     null_relaxed(&made);
     want("no JSON", icescan_relax_new(&made, text("{]"), 2, NULL, 0, text("true"), 4), ICESCAN_TABLE);
     want_line("no JSON", &made, "icescan: M");
+    want("no JSON's hint", icescan_hint(&made, &bytes), ICESCAN_OK);
+    if (bytes.len)
+        want("metadata that is no JSON has no hint", 1, 0);
     want("no UTF-8", icescan_relax_new(&made, metadata.bytes, metadata.len, text("\xff"), 1, NULL, 0),
          ICESCAN_ENCODING);
     want_line("no UTF-8: what was held stays", &made, "icescan: M");
     want("bad filter", icescan_relax_new(&made, metadata.bytes, metadata.len, NULL, 0, text("= ="), 3), ICESCAN_ASKED);
     want_line("bad filter", &made, "icescan: F");
+    want("bad filter's hint", icescan_hint(&made, &bytes), ICESCAN_OK);
+    if (bytes.len < 13 || memcmp(bytes.at, "  F1 Syntax: ", 13) != 0 || bytes.at[bytes.len - 1] != '\n')
+        want("a hint begins with the refusal's name and ends a line", 1, 0);
     want("a fault is no filter", icescan_relax_filter(&made, &bytes), ICESCAN_KIND);
     want("no filter", icescan_relax_new(&made, metadata.bytes, metadata.len, NULL, 0, NULL, 0), ICESCAN_OK);
     want("no filter", icescan_relax_filter(&made, &bytes), ICESCAN_OK);
@@ -224,6 +239,104 @@ static void columns(struct file metadata) {
     icescan_free(&made);
 }
 
+/* Audits of a table: what is refused. */
+static void audit(struct file metadata, struct file list, struct file manifest) {
+    icescan_handle made = ICESCAN_NOTHING, other = ICESCAN_NOTHING;
+    icescan_bytes bytes = ICESCAN_NO_BYTES;
+    size_t count = 0;
+    want("null audit", icescan_audit_new(NULL, text("{"), 1, NULL, 0), ICESCAN_NULL);
+    want("null metadata", icescan_audit_new(&made, NULL, 5, NULL, 0), ICESCAN_NULL);
+    want("null name", icescan_audit_new(&made, text("{"), 1, NULL, 1), ICESCAN_NULL);
+    want("null audit", icescan_audit_new_at(NULL, text("{"), 1, 5), ICESCAN_NULL);
+    want("null metadata", icescan_audit_new_at(&made, NULL, 5, 5), ICESCAN_NULL);
+    want("null audit", icescan_audit_take(NULL, text("x"), 1), ICESCAN_NULL);
+    want("null manifest", icescan_audit_take(&made, NULL, 1), ICESCAN_NULL);
+    want("no audit", icescan_audit_take(&made, text("x"), 1), ICESCAN_KIND);
+    want("no such snapshot", icescan_audit_new_at(&made, metadata.bytes, metadata.len, 5), ICESCAN_TABLE);
+    want_line("no such snapshot", &made, "icescan: M7 ");
+    want("audit", icescan_audit_new(&made, metadata.bytes, metadata.len, NULL, 0), ICESCAN_OK);
+    want("not started", icescan_audit_take(&made, manifest.bytes, manifest.len), ICESCAN_KIND);
+    want("list's path", icescan_scan_list(&made, &bytes), ICESCAN_OK);
+    want("started", icescan_scan_start(&made, list.bytes, list.len), ICESCAN_OK);
+    want("wanted", icescan_scan_count(&made, &count), ICESCAN_OK);
+    want("first", icescan_scan_wanted(&made, 0, &bytes), ICESCAN_OK);
+    want("past the last", icescan_scan_wanted(&made, count, &bytes), ICESCAN_PAST_END);
+    want("an audit is no scan", icescan_state_new(&made, &other), ICESCAN_KIND);
+    want("an audit is no state", icescan_state_take(&made, 0, manifest.bytes, manifest.len), ICESCAN_KIND);
+    want("bad manifest", icescan_audit_take(&made, text("Obj"), 3), ICESCAN_TABLE);
+    want_line("bad manifest", &made, "icescan: Z2 ");
+    want("audit", icescan_audit_new(&made, metadata.bytes, metadata.len, NULL, 0), ICESCAN_OK);
+    want("started", icescan_scan_start(&made, list.bytes, list.len), ICESCAN_OK);
+    want("not handed in", icescan_finish(&made), ICESCAN_TABLE);
+    want_line("not handed in", &made, "icescan: Z1 ");
+    icescan_free(&made);
+}
+
+/* Commits to a table: what is refused, and one on a table of which only the list was handed in. */
+static void commit(struct file metadata, struct file list) {
+    static const char *change = "{\"data\": [{\"path\": \"s3://new.parquet\", \"format\": \"parquet\", \"spec-id\": 0, "
+                                "\"partition\": [], \"record-count\": 1, \"file-size\": 1}], \"deletes\": []}";
+    icescan_handle made = ICESCAN_NOTHING;
+    icescan_bytes path = ICESCAN_NO_BYTES, bytes = ICESCAN_NO_BYTES;
+    size_t count = 0, len = strlen(change);
+    want("null commit", icescan_commit_new(NULL, text("{"), 1, text("{"), 1, 1, 0, 1, 0), ICESCAN_NULL);
+    want("null metadata", icescan_commit_new(&made, NULL, 5, text("{"), 1, 1, 0, 1, 0), ICESCAN_NULL);
+    want("null change", icescan_commit_new(&made, text("{"), 1, NULL, 1, 1, 0, 1, 0), ICESCAN_NULL);
+    want("null path", icescan_commit_wanted(&made, NULL), ICESCAN_NULL);
+    want("null file", icescan_commit_take(&made, NULL, 1), ICESCAN_NULL);
+    want("null count", icescan_commit_count(&made, NULL), ICESCAN_NULL);
+    want("null bytes", icescan_commit_file(&made, 0, &path, NULL), ICESCAN_NULL);
+    want("null text", icescan_commit_metadata(&made, NULL), ICESCAN_NULL);
+    want("bad change", icescan_commit_new(&made, metadata.bytes, metadata.len, text("[]"), 2, 1, 0, 1, 0),
+         ICESCAN_ASKED);
+    want_line("bad change", &made, "icescan: C1 ");
+    want("bad metadata", icescan_commit_new(&made, text("{"), 1, text(change), len, 1, 0, 1, 0), ICESCAN_TABLE);
+    want_line("bad metadata", &made, "icescan: M1 ");
+    want("commit", icescan_commit_new(&made, metadata.bytes, metadata.len, text(change), len, 1, 0, 1, 0), ICESCAN_OK);
+    want("list wanted", icescan_commit_wanted(&made, &path), ICESCAN_OK);
+    want("not prepared", icescan_commit_count(&made, &count), ICESCAN_KIND);
+    want("list", icescan_commit_take(&made, list.bytes, list.len), ICESCAN_OK);
+    want("manifest wanted", icescan_commit_wanted(&made, &path), ICESCAN_OK);
+    want("manifest not handed in", icescan_finish(&made), ICESCAN_TABLE);
+    want_line("manifest not handed in", &made, "icescan: K");
+    want("a fault is no commit", icescan_commit_metadata(&made, &bytes), ICESCAN_KIND);
+    want("a fault has no files", icescan_commit_file(&made, 0, &path, &bytes), ICESCAN_KIND);
+    icescan_free(&made);
+}
+
+/* Explanations of a plan: what is refused, and one of a table of which only the list was handed in. */
+static void explanation(struct file metadata, struct file list) {
+    icescan_handle made = ICESCAN_NOTHING;
+    icescan_bytes path = ICESCAN_NO_BYTES;
+    want("null explanation", icescan_explanation_new(NULL, text("{"), 1, NULL, 0, NULL, 0), ICESCAN_NULL);
+    want("null metadata", icescan_explanation_new(&made, NULL, 5, NULL, 0, NULL, 0), ICESCAN_NULL);
+    want("null name", icescan_explanation_new(&made, text("{"), 1, NULL, 1, NULL, 0), ICESCAN_NULL);
+    want("null filter", icescan_explanation_new(&made, text("{"), 1, NULL, 0, NULL, 1), ICESCAN_NULL);
+    want("null explanation", icescan_explanation_new_at(NULL, text("{"), 1, 5, NULL, 0), ICESCAN_NULL);
+    want("null path", icescan_explanation_wanted(&made, NULL), ICESCAN_NULL);
+    want("null file", icescan_explanation_take(&made, NULL, 1), ICESCAN_NULL);
+    want("no explanation", icescan_explanation_take(&made, text("x"), 1), ICESCAN_KIND);
+    want("no such snapshot", icescan_explanation_new_at(&made, metadata.bytes, metadata.len, 5, NULL, 0),
+         ICESCAN_TABLE);
+    want_line("no such snapshot", &made, "icescan: M7 ");
+    want("bad filter", icescan_explanation_new(&made, metadata.bytes, metadata.len, NULL, 0, text("= ="), 3),
+         ICESCAN_ASKED);
+    want_line("bad filter", &made, "icescan: F");
+    want("explanation", icescan_explanation_new(&made, metadata.bytes, metadata.len, NULL, 0, NULL, 0), ICESCAN_OK);
+    want("list wanted", icescan_explanation_wanted(&made, &path), ICESCAN_OK);
+    want("not told", icescan_text(&made, &path), ICESCAN_KIND);
+    want("list", icescan_explanation_take(&made, list.bytes, list.len), ICESCAN_OK);
+    want("manifest wanted", icescan_explanation_wanted(&made, &path), ICESCAN_OK);
+    want("manifest not handed in", icescan_finish(&made), ICESCAN_ABSENT);
+    want("a fault is no text", icescan_text(&made, &path), ICESCAN_KIND);
+    want("explanation", icescan_explanation_new(&made, metadata.bytes, metadata.len, NULL, 0, NULL, 0), ICESCAN_OK);
+    want("bad list", icescan_explanation_take(&made, text("Obj"), 3), ICESCAN_OK);
+    want("no manifest wanted", icescan_explanation_wanted(&made, &path), ICESCAN_PAST_END);
+    want("past the last", icescan_explanation_take(&made, text("Obj"), 3), ICESCAN_PAST_END);
+    want("list refused", icescan_finish(&made), ICESCAN_TABLE);
+    icescan_free(&made);
+}
+
 int main(int count, char **words) {
     if (count != 4)
         return 2;
@@ -241,6 +354,9 @@ int main(int count, char **words) {
     null(&scan);
     relaxed(metadata);
     columns(metadata);
+    audit(metadata, list, manifest);
+    commit(metadata, list);
+    explanation(metadata, list);
     icescan_free(&scan);
 
     /* What is asked. */

@@ -50,8 +50,10 @@
  *
  * What is lent by pointer and length is read only. It stays until the next call that changes what the handle holds:
  * icescan_free, icescan_scan_new, icescan_scan_new_at, icescan_relax_new, icescan_relax_new_at, icescan_columns_new,
- * icescan_columns_new_at, icescan_scan_start, icescan_finish, icescan_state_absorb on the other's handle,
- * icescan_state_new on the state's handle, and icescan_plan_json on the text's handle.
+ * icescan_columns_new_at, icescan_audit_new, icescan_audit_new_at, icescan_audit_take, icescan_commit_new,
+ * icescan_commit_take, icescan_explanation_new, icescan_explanation_new_at, icescan_explanation_take,
+ * icescan_scan_start, icescan_finish, icescan_state_absorb on the other's handle, icescan_state_new on the state's
+ * handle, and icescan_plan_json on the text's handle.
  *
  * Bytes that are handed in are read during the call and never after it. The library can't tell whether they are there.
  *
@@ -86,11 +88,12 @@ extern "C" {
 uint32_t icescan_version(void);
 
 /* How a call ended. A call on a handle of another kind answers ICESCAN_KIND; what else it may answer stands at it. With
- * the numbers 3 and 4 the program `icescan` ends where a file can't be read, or is there already: no call does. */
+ * the number 4 the program `icescan` ends where a file is there already: no call does. */
 enum {
     ICESCAN_OK = 0,
     ICESCAN_TABLE = 1,      /* the table is refused, or has no such snapshot: icescan_fault tells why */
-    ICESCAN_ASKED = 2,      /* the filter is refused: icescan_fault tells why */
+    ICESCAN_ASKED = 2,      /* the filter or the change is refused: icescan_fault tells why */
+    ICESCAN_ABSENT = 3,     /* a file that an explanation wants was not handed in: icescan_fault tells which */
     ICESCAN_MEMORY = 5,     /* memory ran out */
     ICESCAN_KIND = 6,       /* the handle holds nothing of the kind that the call is for */
     ICESCAN_PAST_END = 7,   /* there is no such number */
@@ -99,7 +102,8 @@ enum {
     ICESCAN_NULL = 10       /* NULL in place of a handle, of bytes, or of what is written to */
 };
 
-/* A scan, a state, a plan, a relaxed filter, a text, or the line of a fault; nothing where `held` is NULL. */
+/* A scan, a state, a plan, a relaxed filter, an audit, a commit, an explanation, a text, or the line of a fault;
+ * nothing where `held` is NULL. */
 typedef struct {
     void *held;
 } icescan_handle;
@@ -303,6 +307,65 @@ uint32_t icescan_columns_new(icescan_handle *columns, const uint8_t *metadata, s
 uint32_t icescan_columns_new_at(icescan_handle *columns, const uint8_t *metadata, size_t metadata_len,
                                 int64_t snapshot);
 
+/* Asks for an audit of a snapshot, which is named as for icescan_scan_new and icescan_scan_new_at: whether the manifest
+ * list and the metadata are right about the manifests, and what they say of files. icescan_scan_list then lends the
+ * path of the manifest list, and icescan_scan_start begins the audit by its bytes. It wants every manifest of the
+ * snapshot: icescan_scan_count and icescan_scan_wanted tell which. Their bytes are handed in one after the other in
+ * that order, by icescan_audit_take; several threads may read them before. icescan_finish then has the handle hold the
+ * text of what was found: the lines that `icescan audit --format json` prints. After a refusal the handle holds what
+ * icescan_scan_new leaves.
+ *
+ * icescan_audit_take answers ICESCAN_PAST_END where each manifest was handed in. After ICESCAN_TABLE, as where a
+ * manifest can't be read, and after ICESCAN_MEMORY the handle holds the line of the fault; after other refusals what it
+ * held. */
+uint32_t icescan_audit_new(icescan_handle *audit, const uint8_t *metadata, size_t metadata_len, const uint8_t *name,
+                           size_t name_len);
+uint32_t icescan_audit_new_at(icescan_handle *audit, const uint8_t *metadata, size_t metadata_len, int64_t snapshot);
+uint32_t icescan_audit_take(icescan_handle *audit, const uint8_t *manifest, size_t manifest_len);
+
+/* Asks for a commit to the table whose metadata these are the bytes of. `change` has the text that says what it adds:
+ * files that were written before, as `icescan row-delta` is told of them. The commit makes a snapshot of this id, which
+ * the table must not have; its new files are named by a uuid, of which the upper and the lower 64 bits are handed in,
+ * and which must be new; its time is in milliseconds since 1970-01-01 00:00 UTC. ICESCAN_ASKED where the change is
+ * refused. After a refusal the handle holds what icescan_scan_new leaves.
+ *
+ * The commit then wants files of the table, the current snapshot's manifest list and its manifests, one after the
+ * other: icescan_commit_wanted lends the path of the next one, and icescan_commit_take takes its bytes.
+ * ICESCAN_PAST_END where each was handed in; a table without a current snapshot has none. icescan_finish then prepares
+ * the commit: its handle holds it, after ICESCAN_TABLE, as where a file of the change is in the table already, the line
+ * of the fault. A file that was not handed in is taken for one that is not there. */
+uint32_t icescan_commit_new(icescan_handle *commit, const uint8_t *metadata, size_t metadata_len, const uint8_t *change,
+                            size_t change_len, int64_t snapshot, uint64_t uuid_high, uint64_t uuid_low,
+                            int64_t now_ms);
+uint32_t icescan_commit_wanted(icescan_handle *commit, icescan_bytes *path);
+uint32_t icescan_commit_take(icescan_handle *commit, const uint8_t *bytes, size_t bytes_len);
+
+/* Tells how many files a prepared commit adds, and lends the path and the bytes of one of them, counted from 0: the new
+ * manifests, and the new manifest list. Lends the bytes of the new metadata file, which names them.
+ *
+ * The caller writes the files, each where none stands, and the metadata last, at a path of its choice where none
+ * stands: whoever reads the table has all of the commit or none of it. Where another commit was first, a new one has to
+ * be asked for on its metadata. */
+uint32_t icescan_commit_count(icescan_handle *commit, size_t *count);
+uint32_t icescan_commit_file(icescan_handle *commit, size_t i, icescan_bytes *path, icescan_bytes *bytes);
+uint32_t icescan_commit_metadata(icescan_handle *commit, icescan_bytes *bytes);
+
+/* Asks why each manifest and each file of a snapshot is in the plan or left out of it. The snapshot and the filter are
+ * named as for icescan_scan_new and icescan_scan_new_at. ICESCAN_ASKED where the filter is refused. After a refusal the
+ * handle holds what icescan_scan_new leaves.
+ *
+ * The explanation then wants files of the table, the snapshot's manifest list and the manifests that the plan needs,
+ * one after the other: icescan_explanation_wanted lends the path of the next one, and icescan_explanation_take takes
+ * its bytes. ICESCAN_PAST_END where each was handed in. icescan_finish then has the handle hold the text: the lines
+ * that `icescan explain --format json` prints; after ICESCAN_TABLE, as where a manifest can't be read, and after
+ * ICESCAN_ABSENT the line of the fault. */
+uint32_t icescan_explanation_new(icescan_handle *explanation, const uint8_t *metadata, size_t metadata_len,
+                                 const uint8_t *name, size_t name_len, const uint8_t *filter, size_t filter_len);
+uint32_t icescan_explanation_new_at(icescan_handle *explanation, const uint8_t *metadata, size_t metadata_len,
+                                    int64_t snapshot, const uint8_t *filter, size_t filter_len);
+uint32_t icescan_explanation_wanted(icescan_handle *explanation, icescan_bytes *path);
+uint32_t icescan_explanation_take(icescan_handle *explanation, const uint8_t *bytes, size_t bytes_len);
+
 /* Lends the text that a handle holds. */
 uint32_t icescan_text(icescan_handle *handle, icescan_bytes *text);
 
@@ -312,6 +375,12 @@ uint32_t icescan_fault(icescan_handle *handle, icescan_bytes *line);
 
 /* Tells the number of the refusal whose line a handle holds: the first number of the line. */
 uint32_t icescan_reason(icescan_handle *handle, icescan_reason_of *reason);
+
+/* Lends the hint of a refused filter, for people: the lines that `icescan plan --explain` prints after the line of the
+ * fault, in which a control byte of a name stands as `?`. They say what is wrong, which place or column of the filter
+ * it is about and which names are near, and what to do. There are no bytes for another refusal: docs/REFUSALS.md says
+ * by its number what to do. */
+uint32_t icescan_hint(icescan_handle *handle, icescan_bytes *lines);
 
 /* Lets go what a handle holds. A handle that holds nothing, as one that was freed, may be freed again; so may NULL. */
 void icescan_free(icescan_handle *handle);

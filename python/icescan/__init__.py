@@ -13,8 +13,11 @@
 
 Manifests and manifest lists have to be without compression. Rows that are read must still be filtered.
 """
+from ._audit import Audit, Finding, audit
 from ._columns import Column, Columns, PartitionField, columns
+from ._commit import Commit, prepare_commit
 from ._errors import (
+    ChangeError,
     EncodingError,
     Error,
     FilterError,
@@ -26,19 +29,25 @@ from ._errors import (
     PastEnd,
     TableError,
 )
+from ._explain import Explanation, explain
 from ._files import Folder
 from ._plan import DataFile, DeleteFile, Plan, plan, plan_json
 
 __version__ = "0.1.0"
 
 __all__ = [
+    "Audit",
+    "ChangeError",
     "Column",
     "Columns",
+    "Commit",
     "DataFile",
     "DeleteFile",
     "EncodingError",
     "Error",
+    "Explanation",
     "FilterError",
+    "Finding",
     "Folder",
     "KindError",
     "LibraryNotFound",
@@ -49,7 +58,10 @@ __all__ = [
     "PastEnd",
     "Plan",
     "TableError",
+    "audit",
     "columns",
+    "explain",
     "plan",
     "plan_json",
+    "prepare_commit",
 ]

@@ -1,13 +1,12 @@
 """The columns of a table, and the fields of its partition specs."""
 from __future__ import annotations
 
-import json
 import os
 from dataclasses import dataclass
-from typing import Any, Dict, Iterator, Optional, Tuple, Union
+from typing import Any, Dict, Iterable, Iterator, Optional, Tuple, Union
 
 from ._files import Read
-from ._library import Held, loaded, place
+from ._library import Held, loaded, objects_of, place
 from ._plan import asked_of, reader_of
 
 
@@ -64,10 +63,10 @@ def columns(
     asked = asked_of(metadata, reader_of(folder, prefix, read), ref, snapshot)
     with Held(loaded(place())) as held:
         asked.ask(held, "columns_new")
-        return columns_of(json.loads(line) for line in held.text("text").splitlines())
+        return columns_of(objects_of(held.text("text")))
 
 
-def columns_of(lines: Iterator[Dict[str, Any]]) -> Columns:
+def columns_of(lines: Iterable[Dict[str, Any]]) -> Columns:
     """The columns that lines of JSON tell."""
     schema, default, columns = 0, 0, []
     specs: Dict[int, Tuple[PartitionField, ...]] = {}

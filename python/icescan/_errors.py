@@ -8,16 +8,17 @@ class Error(Exception):
     """A call of icescan that was refused.
 
     `line` is the line that the program `icescan` writes then, without `icescan: ` before it, or "" where there is
-    none; `reason` is the number of the refusal, as `F2`, by which docs/REFUSALS.md lists it, or ""; `status` is the
-    number with which the call of the library ended.
+    none; `reason` is the number of the refusal, as `F2`, by which docs/REFUSALS.md lists it, or ""; `hint` has lines
+    that say what of a filter is refused and what to do, or ""; `status` is the number with which the call of the
+    library ended.
     """
 
     status = 0
     says = "icescan could not answer"
 
-    def __init__(self, line: str = "", reason: str = "") -> None:
+    def __init__(self, line: str = "", reason: str = "", hint: str = "") -> None:
         super().__init__(line or self.says)
-        self.line, self.reason = line, reason
+        self.line, self.reason, self.hint = line, reason, hint
 
 
 class TableError(Error):
@@ -30,6 +31,12 @@ class FilterError(Error):
     """The filter is refused."""
 
     status, says = 2, "the filter is refused"
+
+
+class ChangeError(Error):
+    """The change that a commit is to make is refused."""
+
+    status, says = 2, "the change is refused"
 
 
 class OutOfMemory(Error, MemoryError):

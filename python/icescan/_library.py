@@ -7,15 +7,17 @@ from __future__ import annotations
 import ctypes
 import ctypes.util
 import functools
+import json
 import os
 from ctypes import POINTER, Structure, byref, c_char_p, c_int32, c_int64, c_size_t, c_uint32, c_uint64, c_void_p
-from typing import Any, Optional, Tuple, Union
+from typing import Any, Dict, List, Optional, Tuple, Union
 
 from ._errors import BY_STATUS, Error, LibraryNotFound
 
 
 class Handle(Structure):
-    """What the library made for a caller: a scan, a state, a plan, a text, or the line of a fault."""
+    """What the library made for a caller: a scan, a state, a plan, a commit, an explanation, a text, or the line of a
+    fault."""
 
     _fields_ = [("held", c_void_p)]
 
@@ -113,7 +115,7 @@ TYPES = (
     *("uuid", "fixed", "binary", "decimal"),
 )
 # The statuses after which a handle holds the line of a fault.
-WITH_LINE = (1, 2, 5)
+WITH_LINE = (1, 2, 3, 5)
 GIVEN = (c_char_p, c_size_t)
 CALLS = {
     "scan_new": (*GIVEN, *GIVEN, *GIVEN),
@@ -143,9 +145,23 @@ CALLS = {
     "plan_json": (POINTER(Handle),),
     "columns_new": (*GIVEN, *GIVEN),
     "columns_new_at": (*GIVEN, c_int64),
+    "audit_new": (*GIVEN, *GIVEN),
+    "audit_new_at": (*GIVEN, c_int64),
+    "audit_take": GIVEN,
+    "commit_new": (*GIVEN, *GIVEN, c_int64, c_uint64, c_uint64, c_int64),
+    "commit_wanted": (POINTER(Bytes),),
+    "commit_take": GIVEN,
+    "commit_count": (POINTER(c_size_t),),
+    "commit_file": (c_size_t, POINTER(Bytes), POINTER(Bytes)),
+    "commit_metadata": (POINTER(Bytes),),
+    "explanation_new": (*GIVEN, *GIVEN, *GIVEN),
+    "explanation_new_at": (*GIVEN, c_int64, *GIVEN),
+    "explanation_wanted": (POINTER(Bytes),),
+    "explanation_take": GIVEN,
     "text": (POINTER(Bytes),),
     "fault": (POINTER(Bytes),),
     "reason": (POINTER(Reason),),
+    "hint": (POINTER(Bytes),),
 }
 
 
@@ -199,15 +215,16 @@ class Held:
         if status:
             raise BY_STATUS.get(status, Error)(*(self.fault() if status in WITH_LINE else ()))
 
-    def fault(self) -> Tuple[str, str]:
-        """The line of the fault that it holds, as an exception tells it, and the refusal's number; "" where it has
-        none."""
-        line, reason = Bytes(), Reason()
+    def fault(self) -> Tuple[str, str, str]:
+        """The line of the fault that it holds, as an exception tells it, the refusal's number, and its hint; "" where
+        it has none."""
+        line, reason, hint = Bytes(), Reason(), Bytes()
         if self.library.icescan_fault(byref(self.handle), byref(line)):
-            return "", ""
+            return "", "", ""
         self.library.icescan_reason(byref(self.handle), byref(reason))
+        self.library.icescan_hint(byref(self.handle), byref(hint))
         text = line.text().rstrip("\n")
-        return text[len("icescan: "):] if text.startswith("icescan: ") else text, reason.text()
+        return text[len("icescan: "):] if text.startswith("icescan: ") else text, reason.text(), hint.text()
 
     def count(self, name: str) -> int:
         """The count that the function of this name tells."""
@@ -230,3 +247,9 @@ def told(to: Structure) -> Tuple[Any, int]:
 def given(data: bytes) -> Tuple[bytes, int]:
     """Bytes as arguments: where they are, and how many."""
     return data, len(data)
+
+
+def objects_of(text: str) -> List[Dict[str, Any]]:
+    """The objects of lines of JSON. A line feed alone ends a line: a path or a name may have what `splitlines` takes for
+    an end."""
+    return [json.loads(line) for line in text.split("\n") if line]

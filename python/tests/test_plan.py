@@ -11,10 +11,11 @@ import sys
 import threading
 import types
 import unittest
+import uuid
 from unittest import mock
 
 import icescan
-from icescan import _library, _plan
+from icescan import _audit, _library, _plan
 
 EXAMPLES = os.path.join(os.path.dirname(os.path.abspath(__file__)), "..", "..", "examples")
 EVENTS = "s3://warehouse/db/events"
@@ -22,6 +23,8 @@ EVENTS_METADATA = f"{EVENTS}/metadata/00009-ea5012f5-592b-59fd-6564-e953f439e682
 LIST = "snap-7559570768388442785-1-abbca149-133e-4733-c1b4-179d137ebc57"
 PLAIN = "s3://warehouse/db/plain"
 PLAIN_METADATA = f"{PLAIN}/metadata/00005-c64aaab7-8283-c18e-53ea-99e6e56da046.metadata.json"
+# What the program prints, by its words.
+RUNS = os.path.join(EXAMPLES, "..", "crates", "icescan_runs", "stdout")
 # What is asked of the table of events, by the name of the file that has its plan.
 ASKED = {
     "all": {},
@@ -201,6 +204,105 @@ class Columns(unittest.TestCase):
             self.columns(ref="eoy", snapshot=1)
 
 
+class Audits(unittest.TestCase):
+    def audit(self, **asked):
+        return icescan.audit(EVENTS_METADATA, folder=folder_of("events-java"), prefix=EVENTS, **asked)
+
+    def test_any_number_of_workers(self):
+        audit = self.audit()
+        self.assertEqual(audit.faults, ())
+        self.assertGreaterEqual(audit.entries, len(events()))
+        for workers in (1, 3, 16):
+            with self.subTest(workers=workers):
+                self.assertEqual(self.audit(workers=workers), audit)
+
+    def test_refusals(self):
+        folder = icescan.Folder(folder_of("events-java"), EVENTS)
+        for end, reason in {".metadata.json": "M1", f"{LIST}.avro": "N1", "u0-m0.avro": "Z2"}.items():
+            with self.subTest(end), self.assertRaises(icescan.TableError) as raised:
+                icescan.audit(EVENTS_METADATA, read=lambda path: b"" if path.endswith(end) else folder(path))
+            self.assertEqual(raised.exception.reason, reason, raised.exception.line)
+
+    def test_findings(self):
+        lines = [
+            '{"kind":"finding","finding":"uncovered","level":"fault","manifest":"m","file":"f","field":"d"}',
+            '{"kind":"finding","finding":"total-records","level":"note","says":3,"counted":4}',
+            '{"kind":"totals","manifests":1,"entries":2,"findings":2,"faults":1}',
+        ]
+        audit = _audit.audit_of([json.loads(it) for it in lines])
+        fault = icescan.Finding("uncovered", True, "m", "f", "d")
+        self.assertEqual((audit.faults, audit.manifests, audit.entries), ((fault,), 1, 2))
+        self.assertEqual(audit.findings[1], icescan.Finding("total-records", False, says=3, counted=4))
+
+
+class Explanations(unittest.TestCase):
+    def explain(self, **asked):
+        return icescan.explain(EVENTS_METADATA, **{"folder": folder_of("events-java"), "prefix": EVENTS, **asked})
+
+    def printed(self, *words):
+        """What the program prints of the table of events."""
+        asked = ("explain", "--dir", "events", "--prefix", EVENTS, *words, "--format", "json", EVENTS_METADATA)
+        with open(RUNS, encoding="utf-8") as file:
+            behind = file.read().partition("> " + "\t".join(asked) + "\n")[2]
+        return behind[: behind.index("status ")]
+
+    def test_as_the_program_prints(self):
+        explanation = self.explain(filter="id = 42")
+        self.assertEqual(explanation.text(), self.printed("--filter", "id = 42"))
+        self.assertEqual([it["of"] for it in explanation.lines[-3:]], ["manifest", "data", "delete"])
+
+    def test_kept_files_are_those_of_the_plan(self):
+        for name, asked in ASKED.items():
+            with self.subTest(name):
+                kept = [it["path"] for it in self.explain(**asked) if it["kind"] == "data" and it["kept"]]
+                self.assertEqual(sorted(kept), sorted(it.path for it in events(**asked)))
+
+    def test_refusals(self):
+        with self.assertRaises(icescan.FilterError) as refused:
+            self.explain(filter="price = 1")
+        self.assertEqual(refused.exception.reason, "F2")
+        folder = icescan.Folder(folder_of("events-java"), EVENTS)
+        for end, reason in {".metadata.json": "M1", f"{LIST}.avro": "N1", "u0-m0.avro": "Z2"}.items():
+            with self.subTest(end), self.assertRaises(icescan.TableError) as raised:
+                icescan.explain(EVENTS_METADATA, read=lambda path: b"" if path.endswith(end) else folder(path))
+            self.assertEqual(raised.exception.reason, reason, raised.exception.line)
+
+
+class Commits(unittest.TestCase):
+    NEW = f"{PLAIN}/metadata/v6.json"
+    FILE = {"format": "parquet", "spec-id": 0, "partition": [], "record-count": 10, "file-size": 1000}
+
+    def prepared(self, paths, **words):
+        change = {"data": [{**self.FILE, "path": path} for path in paths], "deletes": []}
+        asked = {"folder": folder_of("plain-java"), "prefix": PLAIN, "snapshot": 7, "uuid": uuid.UUID(int=7 << 64 | 9)}
+        return icescan.prepare_commit(PLAIN_METADATA, json.dumps(change), **{**asked, "now_ms": 1709942400000, **words})
+
+    def test_a_commit_is_planned(self):
+        path = f"{PLAIN}/data/new.parquet"
+        commit = self.prepared([path])
+        self.assertEqual([os.path.basename(name) for name, _ in commit.files][-1][:7], "snap-7-")
+        new = {**dict(commit.files), self.NEW: commit.metadata}
+        old = icescan.Folder(folder_of("plain-java"), PLAIN)
+        after = icescan.plan(self.NEW, read=lambda name: new.get(name) or old(name))
+        (added,) = [it for it in after if it.path == path]
+        self.assertEqual((added.sequence_number, added.record_count), (6, 10))
+        self.assertEqual([it for it in after if it.path != path], list(plain()))
+
+    def test_files_are_named_by_the_uuid(self):
+        paths = [name for name, _ in self.prepared([f"{PLAIN}/data/new.parquet"]).files]
+        self.assertEqual({"00000000-0000-0007-0000-000000000009" in it for it in paths}, {True})
+
+    def test_refusals(self):
+        with self.assertRaises(icescan.ChangeError) as raised:
+            icescan.prepare_commit(PLAIN_METADATA, "[]", folder=folder_of("plain-java"), prefix=PLAIN, snapshot=7,
+                                   uuid=uuid.UUID(int=1), now_ms=0)
+        self.assertEqual(raised.exception.reason, "C1")
+        for reason, words in {"K1": {"snapshot": -1}, "K12": {"now_ms": 0}}.items():
+            with self.subTest(reason), self.assertRaises(icescan.TableError) as raised:
+                self.prepared([f"{PLAIN}/data/new.parquet"], **words)
+            self.assertEqual(raised.exception.reason, reason)
+
+
 class Sizes(unittest.TestCase):
     def test_a_smaller_file_gets_its_front(self):
         with one_plan() as held:
@@ -291,6 +393,15 @@ class Refusals(unittest.TestCase):
         self.refused(icescan.FilterError, "F4", filter="amount > 5")
         self.refused(icescan.FilterError, "F2", filter="colour = 'red' or amount > 5", relax=True)
         self.refused(icescan.EncodingError, "", filter="cat = '\ud800'")
+
+    def test_hints(self):
+        hint = self.refused(icescan.FilterError, "F2", filter="locaton = 'red'").hint
+        self.assertIn("\n  here: `locaton` is no column; nearest to it: `location`", hint)
+        self.assertRegex(hint, r"\A  F2 NoSuchColumn: .*\n(.*\n)*  to do: .*\n(.*\n)*\Z")
+        self.assertIn("`amount`: double", self.refused(icescan.FilterError, "F4", filter="amount > 5").hint)
+        self.assertIn("equality is one `=`", self.refused(icescan.FilterError, "F1", filter="id == 5").hint)
+        self.assertIn("does not take", self.refused(icescan.FilterError, "F3", filter="id = 'red'", relax=True).hint)
+        self.assertEqual(self.refused(icescan.TableError, "M7", snapshot=1, filter="id = 42").hint, "")
 
     def test_of_a_snapshot(self):
         self.assertIsInstance(self.refused(icescan.TableError, "M6", ref="nowhere"), icescan.Error)

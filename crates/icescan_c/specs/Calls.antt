@@ -1,9 +1,18 @@
 -- What calls do to what handles hold.
-use Rattle.std.specs.Prelude.{◌≡◌, ◌⊎◌, ℕ, List, Option, Some, None, Result, Ok, Err}
+use Rattle.std.specs.Prelude.{◌≡◌, ◌⊎◌, ℕ, ◌+◌, ◌*◌, ◌^◌, ℤ, List, Option, Some, None, Result, Ok, Err, slice_get}
+use Rattle.std.specs.Int.{w128, to_be_bytes}
+use Rattle.ice_catalog_changes.specs.declared.change.Ids.{Ids}
 use Rattle.icescan_text.specs.declared.request.Request.{Request}
 use Rattle.icescan_text.specs.declared.fault.RunFault.{RunFault}
 use Rattle.icescan_c.specs.Kept.{Kept}
-use Rattle.icescan_c.specs.Making.{Makes, finished, started}
+use Rattle.ice_manifest_reading.specs.declared.row.Row.{Row}
+use Rattle.icescan_audit.specs.Handed.{Handed}
+use Rattle.icescan_c.specs.Making.{CommitsTo, Holds, Makes, finished, handing, opening, started, telling_audit}
+use Rattle.icescan_c.specs.Making.{telling_explanation}
+use Rattle.icescan_c_commits.specs.Handed.{took}
+use Rattle.icescan_c_commits.specs.declared.handed.HandedCommit.{HandedCommit}
+use Rattle.icescan_c_explanations.specs.Handed.{took as took_to_explain}
+use Rattle.icescan_c_explanations.specs.declared.handed.HandedExplanation.{HandedExplanation}
 use Rattle.icescan_c_requests.specs.Requests.{ReadsTexts}
 use Rattle.icescan_c_requests.specs.Texts.{IsJsonOfAsked}
 use Rattle.icescan_c.specs.States.{TakesOver, TakesRow, untaken}
@@ -29,14 +38,17 @@ abbrev pub ComesToHold : Held → Option Held → Result Unit Refusal → Option
 ComesToHold made before (Ok x) after = after ≡ Some made
 ComesToHold made before ended after = Refuses refusal.Memory before ended after
 
+-- a handle comes to hold what is made, or the line of its fault; without memory for it what was held stays
+abbrev pub Becomes : Result Held RunFault → Option Held → Result Unit Refusal → Option Held → Type 0
+Becomes made before ended after = Refuses refusal.Memory before ended after
+    ⊎ ((kept : Held) × (after ≡ Some kept) × Makes made ended kept)
+
 -- ---- scans
 
--- A handle comes to hold what is made of a request, or the line of its fault; without memory for it what was held
--- stays. A request that could not be read is refused.
+-- what is made of a request, which is refused where it could not be read
 abbrev pub Asks : (Request → Result Held RunFault) → Result Request Refusal → Option Held → Result Unit Refusal
     → Option Held → Type 0
-Asks made (Ok request) before ended after = Refuses refusal.Memory before ended after
-    ⊎ ((kept : Held) × (after ≡ Some kept) × Makes (made request) ended kept)
+Asks made (Ok request) before ended after = Becomes (made request) before ended after
 Asks made (Err refused) before ended after = Refuses refused before ended after
 
 -- the same of a request that is read of these texts
@@ -44,9 +56,10 @@ abbrev pub Selects : (Request → Result Held RunFault) → List (List ℕ) → 
 Selects made texts request before status after = (read : Result Request Refusal) × (ended : Result Unit Refusal)
     × ReadsTexts texts request read × (status ≡ status_of ended) × Asks made read before ended after
 
--- what was selected becomes the scan of a manifest list
+-- what was selected becomes the scan of a manifest list, and a snapshot to be audited its audit
 abbrev pub Starts : List ℕ → Held → Result Unit Refusal → Held → Type 0
 Starts list (held.Selection answer) ended after = Makes (started answer list) ended after
+Starts list (held.Subject subject) ended after = Makes (opening subject list) ended after
 Starts list other ended after = Refuses refusal.Kind other ended after
 
 -- ---- states
@@ -81,9 +94,55 @@ abbrev pub MergesOf : Option Held → Option Held → ℕ → Option Held → Ty
 MergesOf None before status after = (status ≡ status_of (Err refusal.Kind)) × (after ≡ before)
 MergesOf (Some other) before status after = OnHandle (Merges other) before status after
 
--- a state becomes the plan of what it took
+-- an audit takes the manifest of the next row
+abbrev pub HandsNext : Option Row → List ℕ → Handed → Result Unit Refusal → Held → Type 0
+HandsNext None manifest audit ended after = Refuses refusal.PastEnd (held.Audit audit) ended after
+HandsNext (Some row) manifest audit ended after = Makes (handing audit manifest) ended after
+
+abbrev pub Hands : List ℕ → Held → Result Unit Refusal → Held → Type 0
+Hands manifest (held.Audit audit) ended after =
+    HandsNext (slice_get audit.rows audit.read.manifests) manifest audit ended after
+Hands manifest other ended after = Refuses refusal.Kind other ended after
+
+-- ---- commits
+
+-- the names that a commit takes, its uuid as two halves, and its time
+unfoldable pub ids_of : ℤ → ℕ → ℕ → ℤ → Ids
+ids_of snapshot high low now_ms =
+    record { snapshot = snapshot; uuid = to_be_bytes w128 (high * 2 ^ 64 + low); now_ms = now_ms }
+
+-- a handle comes to hold what is made of them
+abbrev pub Asked : Result Held RunFault → Option Held → ℕ → Option Held → Type 0
+Asked made before status after = (ended : Result Unit Refusal) × (status ≡ status_of ended)
+    × Becomes made before ended after
+
+-- a commit takes the next file of its table
+abbrev pub HandsNextFile : Option (List ℕ) → List ℕ → HandedCommit → Result Unit Refusal → Held → Type 0
+HandsNextFile None bytes commit ended after = Refuses refusal.PastEnd (held.Change commit) ended after
+HandsNextFile (Some path) bytes commit ended after = Makes (Ok (held.Change (took commit bytes))) ended after
+
+-- an explanation takes it
+abbrev pub ExplainsNextFile : Option (List ℕ) → List ℕ → HandedExplanation → Result Unit Refusal → Held → Type 0
+ExplainsNextFile None bytes explanation ended after = Refuses refusal.PastEnd (held.Explanation explanation) ended after
+ExplainsNextFile (Some path) bytes explanation ended after =
+    Makes (Ok (held.Explanation (took_to_explain explanation bytes))) ended after
+
+abbrev pub HandsFile : List ℕ → Held → Result Unit Refusal → Held → Type 0
+HandsFile bytes (held.Change commit) ended after =
+    HandsNextFile (slice_get commit.wanted commit.handed) bytes commit ended after
+HandsFile bytes (held.Explanation explanation) ended after =
+    ExplainsNextFile (slice_get explanation.wanted explanation.handed) bytes explanation ended after
+HandsFile bytes other ended after = Refuses refusal.Kind other ended after
+
+-- ---- what they come to
+
+-- a state becomes the plan of what it took, an audit what it found, a commit is prepared, and a plan explained
 abbrev pub Finishes : Held → Result Unit Refusal → Held → Type 0
 Finishes (held.State kept) ended after = Makes (finished kept) ended after
+Finishes (held.Audit audit) ended after = Makes (telling_audit audit) ended after
+Finishes (held.Change commit) ended after =
+    (made : Result Held RunFault) × CommitsTo commit made × Holds made ended after
+Finishes (held.Explanation explanation) ended after = Makes (telling_explanation explanation) ended after
 Finishes other ended after = Refuses refusal.Kind other ended after
 
 -- ---- plans

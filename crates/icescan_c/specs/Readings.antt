@@ -26,8 +26,12 @@ use Rattle.icescan_c_requests.specs.declared.reason.Reason.{Reason}
 -- ---- what is found
 
 abbrev pub fault_in : Held → Result (List ℕ) Refusal
-fault_in (held.Fault line) = Ok line
+fault_in (held.Fault texts) = Ok texts.line
 fault_in other = Err refusal.Kind
+
+abbrev pub hint_in : Held → Result (List ℕ) Refusal
+hint_in (held.Fault texts) = Ok texts.hint
+hint_in other = Err refusal.Kind
 
 abbrev pub text_in : Held → Result (List ℕ) Refusal
 text_in (held.Text text) = Ok text
@@ -35,11 +39,13 @@ text_in other = Err refusal.Kind
 
 abbrev pub list_in : Held → Result (List ℕ) Refusal
 list_in (held.Selection answer) = Ok answer.selection.list
+list_in (held.Subject subject) = Ok subject.list
 list_in other = Err refusal.Kind
 
--- the rows that a scan wants
+-- the rows that a scan or an audit wants
 abbrev pub wanted_in : Held → Result (List Row) Refusal
 wanted_in (held.Scan asked) = Ok asked.scan.wanted
+wanted_in (held.Audit audit) = Ok audit.rows
 wanted_in other = Err refusal.Kind
 
 -- a plan with the types of its partition values, and its lines
@@ -68,6 +74,16 @@ abbrev pub unasked_of : Result RelaxedRequest Refusal → Result (List (List ℕ
 unasked_of (Ok made) = Ok made.unasked
 unasked_of (Err refused) = Err refused
 
+-- the files that a commit adds, each with its path
+abbrev pub added_in : Held → Result (List (List ℕ × List ℕ)) Refusal
+added_in (held.Commit files) = Ok files.added
+added_in other = Err refusal.Kind
+
+-- and the metadata that names them
+abbrev pub metadata_in : Held → Result (List ℕ) Refusal
+metadata_in (held.Commit files) = Ok files.metadata
+metadata_in other = Err refusal.Kind
+
 -- how many there are, and the one at a place
 abbrev pub count_of : {X : Type 0} → Result (List X) Refusal → Result ℕ Refusal
 count_of (Ok xs) = Ok (length xs)
@@ -80,6 +96,21 @@ or_past None = Err refusal.PastEnd
 abbrev pub at_place : {X : Type 0} → Result (List X) Refusal → ℕ → Result X Refusal
 at_place (Ok xs) i = or_past (slice_get xs i)
 at_place (Err refused) i = Err refused
+
+-- the path of the file that a commit or an explanation wants next
+abbrev pub next_in : Held → Result (List ℕ) Refusal
+next_in (held.Change commit) = or_past (slice_get commit.wanted commit.handed)
+next_in (held.Explanation explanation) = or_past (slice_get explanation.wanted explanation.handed)
+next_in other = Err refusal.Kind
+
+-- the path and the bytes of a file that a commit adds
+abbrev pub name_of : Result (List ℕ × List ℕ) Refusal → Result (List ℕ) Refusal
+name_of (Ok file) = Ok file.0
+name_of (Err refused) = Err refused
+
+abbrev pub bytes_of : Result (List ℕ × List ℕ) Refusal → Result (List ℕ) Refusal
+bytes_of (Ok file) = Ok file.1
+bytes_of (Err refused) = Err refused
 
 abbrev pub path_of : Result Row Refusal → Result (List ℕ) Refusal
 path_of (Ok row) = Ok row.path

@@ -2,6 +2,9 @@
 //! plan out. `include/icescan.h` tells callers in C what each call does, and what is left to them.
 #![tactic(auto)]
 
+mod commit_calls;
+mod commit_telling;
+mod explanation_calls;
 mod handle;
 mod held;
 mod loose;

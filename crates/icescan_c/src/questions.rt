@@ -8,6 +8,7 @@ use contract_words::{Items, Text};
 use ice_manifest_reading::read_list;
 use ice_meta::Target;
 use ice_state::Scan;
+use icescan_c_requests::copy_request;
 use icescan_requests::{Selection, select};
 use icescan_text::{Request, RunFault};
 use std::alloc::{AllocError, Global};
@@ -77,11 +78,12 @@ impl Model for Answer {
 impl Answer {
     /// What a request selects of the table whose metadata these are the bytes of. The refusals are those of `select`.
     #[tactic(auto, unfolding(crate::specs::Making::answered))]
-    pub fn read(alloc: Global, metadata: &[u8], request: Request) -> Result<Answer, RunFault>
-        ensures { Gives RunFault.Memory (λ answer. answer) result (answered metadata.now request) }
+    pub fn read(alloc: Global, metadata: &[u8], request: &Request) -> Result<Answer, RunFault>
+        ensures { Gives RunFault.Memory (λ answer. answer) result (answered metadata.now request.now) }
     {
-        let selection = select(alloc, metadata, &request)?;
+        let selection = select(alloc, metadata, request)?;
         let metadata = Items::from_vec(Vec::from_slice(alloc, metadata)?);
+        let request = copy_request(alloc, request)?;
         Ok(Answer {
             question: Question { metadata, request },
             selection,

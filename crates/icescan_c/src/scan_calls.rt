@@ -3,8 +3,8 @@
 ghost use Rattle.std.specs.Prelude.{◌≡◌, [], ◌∷◌, None};
 ghost use Rattle.icescan_c.specs.Calls.{Asks, OnHandle, Selects, Starts};
 ghost use Rattle.icescan_c.specs.Making.{made};
-ghost use Rattle.icescan_c.specs.Readings.{IsCount, IsReason, Reads, at_place, count_of, fault_in, list_in, path_of};
-ghost use Rattle.icescan_c.specs.Readings.{wanted_in};
+ghost use Rattle.icescan_c.specs.Readings.{IsCount, IsReason, Reads, at_place, count_of, fault_in, hint_in, list_in};
+ghost use Rattle.icescan_c.specs.Readings.{path_of, wanted_in};
 ghost use Rattle.icescan_c_files.specs.Lent.{AreLent};
 ghost use Rattle.icescan_c_requests.specs.Requests.{by_id, by_name};
 
@@ -29,7 +29,8 @@ pub(crate) fn ask(
 {
     let request = request?;
     let mut held = Held::Nothing;
-    let ended = held.ask(alloc, making, metadata, request);
+    let ended = held.ask(alloc, making, metadata, &request);
+    drop(request);
     handle.hold(alloc, held)?;
     ended
 }
@@ -162,6 +163,20 @@ pub extern "C" fn icescan_reason(alloc: Global, handle: &mut Handle, reason: &mu
         return status(Err(Refusal::Kind));
     };
     let ended = held.tell_reason(reason);
+    handle.put(held);
+    status(ended)
+}
+
+/// Lends the lines of the hint of a refusal whose line a handle holds.
+#[unsafe(no_mangle)]
+pub extern "C" fn icescan_hint(alloc: Global, handle: &mut Handle, lines: &mut Bytes) -> u32
+    ensures told { Reads AreLent hint_in handle.old.held lines.old result lines.new }
+    ensures unchanged { handle.new.held ≡ handle.old.held }
+{
+    let Some(held) = handle.take(alloc) else {
+        return status(Err(Refusal::Kind));
+    };
+    let ended = held.lend_hint(lines);
     handle.put(held);
     status(ended)
 }

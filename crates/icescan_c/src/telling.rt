@@ -3,9 +3,9 @@
 ghost use Rattle.std.specs.Prelude.{◌≡◌, Err, IfErr, IfOk, Ok, slice_get};
 ghost use Rattle.icescan_c.specs.Readings.{IsCount, IsDeleteOf, IsFileOfLine, IsReason, IsTyped, OfPlaced, Tells};
 ghost use Rattle.icescan_c.specs.Readings.{TellsCountOfDeletes, TellsDelete, TellsDeleteValue, at_place, count_of};
-ghost use Rattle.icescan_c.specs.Readings.{equalities_of, fault_in, filter_of, lines_in, list_in, or_past, path_of};
-ghost use Rattle.icescan_c.specs.Readings.{plan_in, positions_of, relaxed_in, text_in, unasked_of, value_at, value_of};
-ghost use Rattle.icescan_c.specs.Readings.{wanted_in};
+ghost use Rattle.icescan_c.specs.Readings.{equalities_of, fault_in, filter_of, hint_in, lines_in, list_in, or_past};
+ghost use Rattle.icescan_c.specs.Readings.{path_of, plan_in, positions_of, relaxed_in, text_in, unasked_of, value_at};
+ghost use Rattle.icescan_c.specs.Readings.{value_of, wanted_in};
 ghost use Rattle.icescan_c_files.specs.Lent.{AreLent};
 ghost use Rattle.icescan_c_requests.specs.Statuses.{status_of};
 ghost use Rattle.icescan_json.specs.Values.{type_at};
@@ -22,13 +22,14 @@ use icescan_json::{SpecTypes, types_of};
 use icescan_relaxed::RelaxedRequest;
 
 impl Held {
-    /// The rows that a scan wants.
+    /// The rows that a scan or an audit wants.
     fn wanted(&self) -> Result<&[Row], Refusal>
         ensures rows { IfOk result (λ rows. wanted_in self.now ≡ Ok rows.now) }
         ensures none { IfErr result (λ refused. wanted_in self.now ≡ Err refused) }
     {
         match self {
             Held::Scan(scan) => Ok(scan.scan().wanted()),
+            Held::Audit(audit) => Ok(audit.rows()),
             _ => Err(Refusal::Kind),
         }
     }
@@ -60,8 +61,8 @@ impl Held {
         ensures { Tells AreLent (fault_in self.now) line.old (status_of result) line.new }
     {
         match self {
-            Held::Fault(text) => {
-                *line = Bytes::of(text.as_slice());
+            Held::Fault(texts) => {
+                *line = Bytes::of(texts.line.as_slice());
                 Ok(())
             }
             _ => Err(Refusal::Kind),
@@ -73,8 +74,21 @@ impl Held {
         ensures { Tells IsReason (fault_in self.now) reason.old (status_of result) reason.new }
     {
         match self {
-            Held::Fault(text) => {
-                *reason = Reason::of_line(text.as_slice());
+            Held::Fault(texts) => {
+                *reason = Reason::of_line(texts.line.as_slice());
+                Ok(())
+            }
+            _ => Err(Refusal::Kind),
+        }
+    }
+
+    /// Lends the lines of a fault's hint.
+    pub fn lend_hint(&self, lines: &mut Bytes) -> Result<(), Refusal>
+        ensures { Tells AreLent (hint_in self.now) lines.old (status_of result) lines.new }
+    {
+        match self {
+            Held::Fault(texts) => {
+                *lines = Bytes::of(texts.hint.as_slice());
                 Ok(())
             }
             _ => Err(Refusal::Kind),
@@ -137,7 +151,7 @@ impl Held {
         }
     }
 
-    /// Lends the path of the manifest list of what was selected.
+    /// Lends the path of the manifest list of what was selected, or is to be audited.
     pub fn lend_list(&self, path: &mut Bytes) -> Result<(), Refusal>
         ensures { Tells AreLent (list_in self.now) path.old (status_of result) path.new }
     {
@@ -146,11 +160,15 @@ impl Held {
                 *path = Bytes::of(answer.list());
                 Ok(())
             }
+            Held::Subject(subject) => {
+                *path = Bytes::of(subject.list.as_bytes());
+                Ok(())
+            }
             _ => Err(Refusal::Kind),
         }
     }
 
-    /// Tells how many manifests a scan wants.
+    /// Tells how many manifests a scan or an audit wants.
     pub fn count_wanted(&self, count: &mut usize) -> Result<(), Refusal>
         ensures { Tells IsCount (count_of (wanted_in self.now)) count.old (status_of result) count.new }
     {
@@ -158,7 +176,7 @@ impl Held {
         Ok(())
     }
 
-    /// Lends the path of a manifest that a scan wants.
+    /// Lends the path of a manifest that a scan or an audit wants.
     pub fn lend_wanted(&self, i: usize, path: &mut Bytes) -> Result<(), Refusal>
         ensures { Tells AreLent (path_of (at_place (wanted_in self.now) i)) path.old (status_of result)
             path.new }

@@ -1,7 +1,7 @@
 //! The calls that tell lines of JSON.
 
 ghost use Rattle.std.specs.Prelude.{◌≡◌, [], ◌∷◌};
-ghost use Rattle.icescan_c.specs.Calls.{OfOther, Selects, TellsJson};
+ghost use Rattle.icescan_c.specs.Calls.{Hands, OfOther, OnHandle, Selects, TellsJson};
 ghost use Rattle.icescan_c.specs.Making.{made};
 ghost use Rattle.icescan_c.specs.Readings.{Reads, text_in};
 ghost use Rattle.icescan_c_files.specs.Lent.{AreLent};
@@ -53,6 +53,59 @@ pub extern "C" fn icescan_columns_new_at(
         metadata,
         request_by_id(alloc, snapshot, b""),
     ))
+}
+
+/// Asks for an audit of the snapshot that a branch or tag names, of the current one where the name is empty.
+#[unsafe(no_mangle)]
+pub extern "C" fn icescan_audit_new(
+    alloc: Global,
+    audit: &mut Handle,
+    metadata: &[u8],
+    name: &[u8],
+) -> u32
+    ensures { Selects (made Making.Audit metadata.now) (name.now ∷ [] ∷ []) (by_name name.now []) audit.old.held result
+        audit.new.held }
+{
+    status(ask(
+        alloc,
+        Making::Audit,
+        audit,
+        metadata,
+        request_by_name(alloc, name, b""),
+    ))
+}
+
+/// Asks for an audit of the snapshot of an id.
+#[unsafe(no_mangle)]
+pub extern "C" fn icescan_audit_new_at(
+    alloc: Global,
+    audit: &mut Handle,
+    metadata: &[u8],
+    snapshot: i64,
+) -> u32
+    ensures { Selects (made Making.Audit metadata.now) ([] ∷ []) (by_id snapshot []) audit.old.held result
+        audit.new.held }
+{
+    status(ask(
+        alloc,
+        Making::Audit,
+        audit,
+        metadata,
+        request_by_id(alloc, snapshot, b""),
+    ))
+}
+
+/// Hands in the manifest of the next row that the audit wants, which has these bytes.
+#[unsafe(no_mangle)]
+pub extern "C" fn icescan_audit_take(alloc: Global, audit: &mut Handle, manifest: &[u8]) -> u32
+    ensures { OnHandle (Hands manifest.now) audit.old.held result audit.new.held }
+{
+    let Some(mut held) = audit.take(alloc) else {
+        return status(Err(Refusal::Kind));
+    };
+    let ended = held.hand(alloc, manifest);
+    audit.put(held);
+    status(ended)
 }
 
 /// Has a handle hold a plan as JSON: `Kind` where what was lent is no plan, or `Memory`, and then the handle holds what

@@ -24,6 +24,7 @@ told read (run.Filter f) h not = h
 told read (run.Drill f) h not = h
 told read (run.Locate f) h not = h
 told read (run.Lineage f) h not = h
+told read (run.State path flaw) h not = h
 told read (run.Change f) h not = h
 told read (run.Prepare f) h not = h
 told read (run.Conflict path) h not = h

@@ -2,14 +2,18 @@
 #![tactic(auto)]
 
 mod asking;
+mod copies;
 mod endings;
+mod hints;
 mod lines;
 mod reason;
 mod residual;
 mod texts;
 
 pub use asking::{request_by_id, request_by_name};
+pub use copies::copy_request;
 pub use endings::{Refusal, status};
+pub use hints::filter_hint;
 pub use lines::fault_line;
 pub use reason::Reason;
-pub use texts::{columns_json, plan_json};
+pub use texts::{as_memory, columns_json, plan_json};

@@ -17,7 +17,7 @@ use icescan_text::{Request, RunFault};
 use std::alloc::{AllocError, Global};
 
 /// Memory can't be written where it can't grow.
-fn as_memory(fault: RunFault) -> RunFault
+pub fn as_memory(fault: RunFault) -> RunFault
     ensures { result ≡ as_memory fault }
 {
     match fault {
