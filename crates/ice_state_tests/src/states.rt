@@ -112,7 +112,8 @@ fn of_steps(rt: HostRuntime) {
 /// Whether the three delete files of a state wait, and no index is made of them yet.
 fn await_one_index(alloc: Global, state: &Partial) -> bool {
     match format!(in alloc; "{state:?}") {
-        Ok(text) => text.matches("FileNumber {").count() == 3 && text.matches("Delete {").count() == 0,
+        Ok(text) => text.matches("FileNumber {").count() == 3
+            && text.matches("Delete {").count() == 0,
         Err(_) => false,
     }
 }
