@@ -7,8 +7,8 @@ ghost use Rattle.contract_words.specs.Outcome.{Gives};
 ghost use Rattle.ice_value.specs.Bounds.{fits_int};
 ghost use Rattle.ice_value.specs.declared.cell.Cell.{Cell};
 ghost use Rattle.ice_value.specs.declared.column_type.ColumnType.{ColumnType};
-ghost use Rattle.ice_filter.specs.Binding.{cell_of, cells_of, is_order, is_comparable, is_uuid, is_string, may_ask};
-ghost use Rattle.ice_filter.specs.Binding.{compared_to, among, starts, test_of, path, type_for, asked, bound_predicate};
+ghost use Rattle.ice_filter.specs.Binding.{cell_of, cells_of, is_order, is_comparable, may_ask};
+ghost use Rattle.ice_filter.specs.Binding.{compared_to, among, starts, test_of, type_for, asked, bound_predicate};
 ghost use Rattle.ice_filter.specs.Binding.{bound_part, bound_parts, predicate_meets};
 ghost use Rattle.ice_filter.specs.Rows.{Row, row_meets};
 ghost use Rattle.ice_filter.specs.Trees.{tree_of, meaning};
@@ -25,6 +25,9 @@ use ice_value::{Cell, ColumnType};
 use std::alloc::{AllocError, Global};
 use uuid::Uuid;
 
+/// What a column makes of a constant; none where it does not take it.
+type Taken<T> = Result<Option<T>, AllocError>;
+
 /// Whether the number fits 32 bits.
 fn fits_int(number: i64) -> bool
     ensures { result ≡ fits_int number }
@@ -33,7 +36,7 @@ fn fits_int(number: i64) -> bool
 }
 
 /// The 16 bytes of a uuid.
-fn uuid_cell(alloc: Global, text: &Text) -> Result<Option<Cell>, AllocError>
+fn uuid_cell(alloc: Global, text: &Text) -> Taken<Cell>
     ensures { IfOk result (λ cell. cell ≡ option_map Cell.Bytes (uuid_in text.now)) }
 {
     match Uuid::parse_str(text.as_str()) {
@@ -61,11 +64,7 @@ fn number_cell(column_type: ColumnType, number: i64) -> Option<Cell>
 }
 
 /// The value of a text, where the column takes it.
-fn text_cell(
-    alloc: Global,
-    column_type: ColumnType,
-    text: &Text,
-) -> Result<Option<Cell>, AllocError>
+fn text_cell(alloc: Global, column_type: ColumnType, text: &Text) -> Taken<Cell>
     ensures { IfOk result (λ cell. cell ≡ cell_of column_type (Literal.Text text.now)) }
 {
     match column_type {
@@ -76,11 +75,7 @@ fn text_cell(
 }
 
 /// The value of bytes, where the column takes them.
-fn bytes_cell(
-    alloc: Global,
-    column_type: ColumnType,
-    bytes: &Items<u8>,
-) -> Result<Option<Cell>, AllocError>
+fn bytes_cell(alloc: Global, column_type: ColumnType, bytes: &Items<u8>) -> Taken<Cell>
     ensures { IfOk result (λ cell. cell ≡ cell_of column_type (Literal.Bytes bytes.now)) }
 {
     match column_type {
@@ -97,11 +92,7 @@ fn bytes_cell(
 }
 
 /// The value of a literal, where the column takes it.
-fn cell_of(
-    alloc: Global,
-    column_type: ColumnType,
-    literal: &Literal,
-) -> Result<Option<Cell>, AllocError>
+fn cell_of(alloc: Global, column_type: ColumnType, literal: &Literal) -> Taken<Cell>
     ensures { IfOk result (λ cell. cell ≡ cell_of column_type literal.now) }
 {
     match literal {
@@ -121,7 +112,7 @@ fn cells_of(
     column_type: ColumnType,
     first: &Literal,
     more: &[Literal],
-) -> Result<Option<Items<Cell>>, AllocError>
+) -> Taken<Items<Cell>>
     ensures { IfOk result (λ cells. cells ≡ cells_of column_type (first.now ∷ more.now)) }
 {
     let mut cells = Items::new(alloc);
@@ -153,26 +144,14 @@ fn is_comparable(column_type: ColumnType) -> bool
     )
 }
 
-fn is_uuid(column_type: ColumnType) -> bool
-    ensures { result ≡ is_uuid column_type }
-{
-    matches!(column_type, ColumnType::Uuid)
-}
-
-fn is_string(column_type: ColumnType) -> bool
-    ensures { result ≡ is_string column_type }
-{
-    matches!(column_type, ColumnType::String)
-}
-
 /// Whether a column of the type may be asked so.
 fn may_ask(column_type: ColumnType, question: &Question) -> bool
     ensures { result ≡ may_ask column_type question.now }
 {
     match question {
         Question::Compare(sign, _) => is_comparable(column_type)
-            && !(is_uuid(column_type) && is_order(*sign)),
-        Question::Begins(_) => is_string(column_type),
+            && !(matches!(column_type, ColumnType::Uuid) && is_order(*sign)),
+        Question::Begins(_) => matches!(column_type, ColumnType::String),
         _ => is_comparable(column_type),
     }
 }
@@ -210,7 +189,7 @@ fn among(negated: bool, values: Items<Cell>) -> Test
 }
 
 /// The literal as a text.
-fn starts(alloc: Global, literal: &Literal) -> Result<Option<Test>, AllocError>
+fn starts(alloc: Global, literal: &Literal) -> Taken<Test>
     ensures { IfOk result (λ test. test ≡ starts literal.now) }
 {
     match literal {
@@ -224,7 +203,7 @@ fn comparison_test(
     column_type: ColumnType,
     sign: Comparison,
     literal: &Literal,
-) -> Result<Option<Test>, AllocError>
+) -> Taken<Test>
     ensures { IfOk result (λ test. test ≡ option_map (compared_to sign) (cell_of column_type literal.now)) }
 {
     match cell_of(alloc, column_type, literal)? {
@@ -238,7 +217,7 @@ fn list_test(
     column_type: ColumnType,
     negated: bool,
     choices: &Choices,
-) -> Result<Option<Test>, AllocError>
+) -> Taken<Test>
     ensures { IfOk result (λ test. test ≡
         option_map (among negated) (cells_of column_type (choices.now.first ∷ choices.now.more))) }
 {
@@ -249,11 +228,7 @@ fn list_test(
 }
 
 /// What is asked, over the values of its literals.
-fn test_of(
-    alloc: Global,
-    column_type: ColumnType,
-    question: &Question,
-) -> Result<Option<Test>, AllocError>
+fn test_of(alloc: Global, column_type: ColumnType, question: &Question) -> Taken<Test>
     ensures { IfOk result (λ test. test ≡ test_of column_type question.now) }
 {
     match question {
@@ -263,18 +238,6 @@ fn test_of(
         Question::Present => Ok(Some(Test::IsPresent)),
         Question::Begins(literal) => starts(alloc, literal),
     }
-}
-
-/// The names that lead to a column.
-fn path_of(alloc: Global, column: &Column) -> Result<Items<Text>, AllocError>
-    ensures { IfOk result (λ names. names ≡ path column.now) }
-{
-    let mut names = Items::new(alloc);
-    names.push(column.first.copy(alloc)?)?;
-    'names: for name in column.more.as_slice() {
-        names.push(name.copy(alloc)?)?;
-    }
-    Ok(names)
 }
 
 /// The type of a column that may be asked so.
@@ -325,7 +288,7 @@ fn bind_predicate(
 ) -> Result<BoundPredicate, FilterFault>
     ensures { Gives FilterFault.Memory (λ predicate. predicate) result (bound_predicate schema.now predicate.now) }
 {
-    let names = path_of(alloc, &predicate.column)?;
+    let names = predicate.column.path(alloc)?;
     match schema.column(names.as_slice()) {
         Some(column) => ask(alloc, column.id, column.column_type, &predicate.question),
         None => Err(FilterFault::NoSuchColumn),

@@ -1,15 +1,17 @@
 //! Predicates: what a filter asks of a column.
 
-ghost use Rattle.std.specs.Prelude.{◌≡◌};
+ghost use Rattle.std.specs.Prelude.{◌≡◌, IfOk};
 ghost use Rattle.contract_words.specs.Outcome.{Gives};
+ghost use Rattle.ice_filter.specs.Binding.{path};
 ghost use Rattle.ice_filter.specs.Parsing.{literal_of, predicate_step, behind_column, behind_dot, behind_not, behind_in};
 ghost use Rattle.ice_filter.specs.Parsing.{behind_listed, behind_is, behind_is_not, behind_starts, compared, chosen};
 ghost use Rattle.ice_filter.specs.Parsing.{chosen_too, begun};
+ghost use Rattle.ice_filter.specs.declared.predicate.Progress.{Progress};
 
 use crate::fault::FilterFault;
 use crate::token::{Comparison, Token};
 use contract_words::{Items, Text};
-use std::alloc::Global;
+use std::alloc::{AllocError, Global};
 
 /// A constant.
 #[derive(Drop)]
@@ -25,6 +27,20 @@ pub enum Literal {
 pub struct Column {
     pub first: Text,
     pub more: Items<Text>,
+}
+
+impl Column {
+    /// The names, in their order.
+    pub fn path(&self, alloc: Global) -> Result<Items<Text>, AllocError>
+        ensures { IfOk result (λ names. names ≡ path self.now) }
+    {
+        let mut names = Items::new(alloc);
+        names.push(self.first.copy(alloc)?)?;
+        'names: for name in self.more.as_slice() {
+            names.push(name.copy(alloc)?)?;
+        }
+        Ok(names)
+    }
 }
 
 /// A list of constants, of which there is one at least.
@@ -81,8 +97,18 @@ pub enum Progress {
     Done(Predicate),
 }
 
+/// What a token makes of a predicate, unless it may not stand there.
+type Step = Result<Progress, FilterFault>;
+
 /// The most literals that a list may have.
 pub const MOST_LITERALS: usize = 1000;
+
+/// The whole predicate.
+fn done(column: Column, question: Question) -> Progress
+    ensures { result ≡ Progress.Done (record { column = column; question = question }) }
+{
+    Progress::Done(Predicate { column, question })
+}
 
 #[tactic(auto, unfolding(crate::specs::Parsing::literal_of))]
 fn literal_of(token: Token) -> Option<Literal>
@@ -98,7 +124,7 @@ fn literal_of(token: Token) -> Option<Literal>
 }
 
 #[tactic(auto, unfolding(crate::specs::Parsing::behind_column))]
-fn behind_column(at: usize, column: Column, token: Token) -> Result<Progress, FilterFault>
+fn behind_column(at: usize, column: Column, token: Token) -> Step
     ensures { result ≡ behind_column at column token }
 {
     match token {
@@ -113,7 +139,7 @@ fn behind_column(at: usize, column: Column, token: Token) -> Result<Progress, Fi
 }
 
 #[tactic(auto, unfolding(crate::specs::Parsing::behind_dot))]
-fn behind_dot(at: usize, column: Column, token: Token) -> Result<Progress, FilterFault>
+fn behind_dot(at: usize, column: Column, token: Token) -> Step
     ensures { Gives FilterFault.Memory (λ x. x) result (behind_dot at column token) }
 {
     match token {
@@ -127,25 +153,17 @@ fn behind_dot(at: usize, column: Column, token: Token) -> Result<Progress, Filte
 }
 
 #[tactic(auto, unfolding(crate::specs::Parsing::compared))]
-fn compared(
-    at: usize,
-    column: Column,
-    sign: Comparison,
-    literal: Option<Literal>,
-) -> Result<Progress, FilterFault>
+fn compared(at: usize, column: Column, sign: Comparison, literal: Option<Literal>) -> Step
     ensures { result ≡ compared at column sign literal }
 {
     match literal {
-        Some(literal) => Ok(Progress::Done(Predicate {
-            column,
-            question: Question::Compare(sign, literal),
-        })),
+        Some(literal) => Ok(done(column, Question::Compare(sign, literal))),
         None => Err(FilterFault::Syntax(at)),
     }
 }
 
 #[tactic(auto, unfolding(crate::specs::Parsing::behind_not))]
-fn behind_not(at: usize, column: Column, token: Token) -> Result<Progress, FilterFault>
+fn behind_not(at: usize, column: Column, token: Token) -> Step
     ensures { result ≡ behind_not at column token }
 {
     match token {
@@ -155,12 +173,7 @@ fn behind_not(at: usize, column: Column, token: Token) -> Result<Progress, Filte
 }
 
 #[tactic(auto, unfolding(crate::specs::Parsing::behind_in))]
-fn behind_in(
-    at: usize,
-    column: Column,
-    negated: bool,
-    token: Token,
-) -> Result<Progress, FilterFault>
+fn behind_in(at: usize, column: Column, negated: bool, token: Token) -> Step
     ensures { result ≡ behind_in at column negated token }
 {
     match token {
@@ -170,13 +183,7 @@ fn behind_in(
 }
 
 #[tactic(auto, unfolding(crate::specs::Parsing::chosen))]
-fn chosen(
-    alloc: Global,
-    at: usize,
-    column: Column,
-    negated: bool,
-    literal: Option<Literal>,
-) -> Result<Progress, FilterFault>
+fn chosen(alloc: Global, at: usize, column: Column, negated: bool, literal: Option<Literal>) -> Step
     ensures { result ≡ chosen at column negated literal }
 {
     match literal {
@@ -189,21 +196,12 @@ fn chosen(
 }
 
 #[tactic(auto, unfolding(crate::specs::Parsing::behind_listed))]
-fn behind_listed(
-    at: usize,
-    column: Column,
-    negated: bool,
-    choices: Choices,
-    token: Token,
-) -> Result<Progress, FilterFault>
+fn behind_listed(at: usize, column: Column, negated: bool, choices: Choices, token: Token) -> Step
     ensures { result ≡ behind_listed at column negated choices token }
 {
     match token {
         Token::Comma => Ok(Progress::Going(Partial::Comma(column, negated, choices))),
-        Token::Close => Ok(Progress::Done(Predicate {
-            column,
-            question: Question::Among(negated, choices),
-        })),
+        Token::Close => Ok(done(column, Question::Among(negated, choices))),
         _ => Err(FilterFault::Syntax(at)),
     }
 }
@@ -215,7 +213,7 @@ fn chosen_too(
     negated: bool,
     choices: Choices,
     literal: Option<Literal>,
-) -> Result<Progress, FilterFault>
+) -> Step
     ensures { Gives FilterFault.Memory (λ x. x) result (chosen_too 1000 at column negated choices literal) }
 {
     match literal {
@@ -232,34 +230,28 @@ fn chosen_too(
 }
 
 #[tactic(auto, unfolding(crate::specs::Parsing::behind_is))]
-fn behind_is(at: usize, column: Column, token: Token) -> Result<Progress, FilterFault>
+fn behind_is(at: usize, column: Column, token: Token) -> Step
     ensures { result ≡ behind_is at column token }
 {
     match token {
-        Token::Null => Ok(Progress::Done(Predicate {
-            column,
-            question: Question::Missing,
-        })),
+        Token::Null => Ok(done(column, Question::Missing)),
         Token::Not => Ok(Progress::Going(Partial::IsNot(column))),
         _ => Err(FilterFault::Syntax(at)),
     }
 }
 
 #[tactic(auto, unfolding(crate::specs::Parsing::behind_is_not))]
-fn behind_is_not(at: usize, column: Column, token: Token) -> Result<Progress, FilterFault>
+fn behind_is_not(at: usize, column: Column, token: Token) -> Step
     ensures { result ≡ behind_is_not at column token }
 {
     match token {
-        Token::Null => Ok(Progress::Done(Predicate {
-            column,
-            question: Question::Present,
-        })),
+        Token::Null => Ok(done(column, Question::Present)),
         _ => Err(FilterFault::Syntax(at)),
     }
 }
 
 #[tactic(auto, unfolding(crate::specs::Parsing::behind_starts))]
-fn behind_starts(at: usize, column: Column, token: Token) -> Result<Progress, FilterFault>
+fn behind_starts(at: usize, column: Column, token: Token) -> Step
     ensures { result ≡ behind_starts at column token }
 {
     match token {
@@ -269,14 +261,11 @@ fn behind_starts(at: usize, column: Column, token: Token) -> Result<Progress, Fi
 }
 
 #[tactic(auto, unfolding(crate::specs::Parsing::begun))]
-fn begun(at: usize, column: Column, literal: Option<Literal>) -> Result<Progress, FilterFault>
+fn begun(at: usize, column: Column, literal: Option<Literal>) -> Step
     ensures { result ≡ begun at column literal }
 {
     match literal {
-        Some(literal) => Ok(Progress::Done(Predicate {
-            column,
-            question: Question::Begins(literal),
-        })),
+        Some(literal) => Ok(done(column, Question::Begins(literal))),
         None => Err(FilterFault::Syntax(at)),
     }
 }

@@ -1,7 +1,7 @@
 //! Texts of filters.
 
 ghost use Rattle.std.specs.Prelude.{◌≡◌, ◌++◌, ◌∷◌, [], codes, reverse, OnOk, IfOk};
-ghost use Rattle.ice_filter.specs.Texts.{literal_text, column_text, choices_text, sign_text, in_text, question_text};
+ghost use Rattle.ice_filter.specs.Texts.{literal_text, column_text, choices_text, in_text, question_text};
 ghost use Rattle.ice_filter.specs.Texts.{predicate_text, truth_text, enclosed, shown};
 ghost use Rattle.ice_filter.specs.Pieces.{both_of, either_of, truth_piece, predicate_piece, top, rest, put};
 ghost use Rattle.ice_filter.specs.Trees.{tree_of};
@@ -9,7 +9,6 @@ ghost use Rattle.ice_filter.specs.Trees.{tree_of};
 use crate::parts::Part;
 use crate::phrase::Phrase;
 use crate::predicate::{Choices, Column, Literal, Predicate, Question};
-use crate::token::Comparison;
 use std::alloc::{AllocError, AllocFailed, Global};
 use std::marker::Model;
 
@@ -18,19 +17,6 @@ fn truth_text(truth: bool) -> &'static str
     ensures { result.now ≡ truth_text truth }
 {
     if truth { "true" } else { "false" }
-}
-
-fn sign_text(sign: Comparison) -> &'static str
-    ensures { result.now ≡ sign_text sign }
-{
-    match sign {
-        Comparison::Less => " < ",
-        Comparison::AtMost => " <= ",
-        Comparison::Greater => " > ",
-        Comparison::AtLeast => " >= ",
-        Comparison::Equal => " = ",
-        Comparison::NotEqual => " != ",
-    }
 }
 
 fn in_text(negated: bool) -> &'static str
@@ -90,7 +76,7 @@ fn push_question(phrase: &mut Phrase, alloc: Global, question: &Question) -> Res
 {
     match question {
         Question::Compare(sign, literal) => {
-            phrase.push_str(sign_text(*sign))?;
+            phrase.push_str(sign.text())?;
             push_literal(phrase, alloc, literal)
         }
         Question::Among(negated, choices) => push_list(phrase, alloc, *negated, choices),

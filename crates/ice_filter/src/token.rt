@@ -1,5 +1,8 @@
 //! The tokens of a filter.
 
+ghost use Rattle.std.specs.Prelude.{◌≡◌};
+ghost use Rattle.ice_filter.specs.Texts.{sign_text};
+
 use contract_words::{Items, Text};
 
 /// How a column is compared.
@@ -11,6 +14,22 @@ pub enum Comparison {
     AtLeast,
     Equal,
     NotEqual,
+}
+
+impl Comparison {
+    /// The sign between spaces, as it stands in a filter.
+    pub fn text(self) -> &'static str
+        ensures { result.now ≡ sign_text self }
+    {
+        match self {
+            Comparison::Less => " < ",
+            Comparison::AtMost => " <= ",
+            Comparison::Greater => " > ",
+            Comparison::AtLeast => " >= ",
+            Comparison::Equal => " = ",
+            Comparison::NotEqual => " != ",
+        }
+    }
 }
 
 /// A token: what stands between two places of a text.
