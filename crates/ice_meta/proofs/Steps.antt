@@ -3,18 +3,21 @@ use Rattle.std.proofs.Common.{◌≡◌, ◌≢◌, ap, ℕ, zero, suc, ◌+◌,
 use Rattle.std.proofs.Common.{get_or, drop, Ok, Err, Bool, Some, None, true≢false, refl, sym, ◌∙◌}
 use Rattle.std.proofs.Common.{arith}
 use Rattle.std.specs.Prelude.{ℤ}
-use Rattle.std.specs.List.{list_any, IsFirstAndRest}
+use Rattle.std.specs.List.{list_all, list_any, IsFirstAndRest}
+use Rattle.std.specs.Option.{is_some}
 use Rattle.std.specs.Ordering.{int_eq}
-use Rattle.std.specs.Prelude.{Result, find}
+use Rattle.std.specs.Prelude.{◌&&◌, Result, find}
 use Rattle.std.proofs.Math.ListN.{drop_of_length-le}
 use Rattle.serde_json.specs.declared.value.Value.{Value}
 use Rattle.serde_json.specs.Data.{Data}
+use Rattle.serde_json.specs.Find.{as_object}
 use Rattle.serde_json.specs.View.{view, items_view}
 use Rattle.serde_json.specs.Events.{items_len}
 use Rattle.ice_meta_json.proofs.Joined.{step_of}
 use Rattle.ice_meta.specs.declared.fault.MetaFault.{MetaFault}
 use Rattle.ice_meta.specs.declared.fault.MetaFault.TheVariants.{TooBig, Memory}
 use Rattle.ice_meta.specs.declared.schema.Column.{Column}
+use Rattle.ice_meta.specs.Members.{all_objects}
 use Rattle.ice_meta.specs.Reading.{again, each_into, one_more}
 use Rattle.ice_meta.specs.Schemas.{object_at, inside}
 
@@ -37,6 +40,12 @@ one_level (suc n) at d cs some = let k : suc n - 1 ≡ n = omega arith in rw k r
 pub items_count : (vs : List Value) → items_len (items_view vs) ≡ length vs
 items_count [] = refl
 items_count (v ∷ vs) = ap suc (items_count vs)
+
+-- whether each is an object, said of a list of values
+pub all_objects_listed : (vs : List Value)
+    → list_all (λ (v : Value). is_some (as_object (view v))) vs ≡ all_objects (items_view vs)
+all_objects_listed [] = refl
+all_objects_listed (v ∷ vs) = ap (λ b. is_some (as_object (view v)) && b) (all_objects_listed vs)
 
 -- ---- reading one item after the other
 

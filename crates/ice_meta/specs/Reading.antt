@@ -1,5 +1,6 @@
 -- One value after the other, from left to right, up to the first fault; and numbers that may be given once.
-use Rattle.std.specs.Prelude.{ℤ, List, [], ◌∷◌, ◌++◌, map, Option, None, Some, Result, Ok, Err, if◌then◌else◌}
+use Rattle.std.specs.Prelude.{ℤ, List, [], ◌∷◌, ◌++◌, map, find, Bool, Option, None, Some, Result, Ok, Err}
+use Rattle.std.specs.Prelude.{if◌then◌else◌}
 use Rattle.std.specs.List.{list_any}
 use Rattle.std.specs.Ordering.{int_eq}
 use Rattle.contract_words.specs.Outcome.{◌>>=◌}
@@ -20,6 +21,14 @@ one_more read d front = read d >>= λ x. Ok (front ++ x ∷ [])
 -- what is read of each item
 abbrev pub each : {A : Type 0} → (Data → Result A MetaFault) → Items → Result (List A) MetaFault
 each read items = each_into (one_more read) items []
+
+-- whether one of them has the id
+abbrev pub is_among : {A : Type 0} → (A → ℤ) → ℤ → List A → Bool
+is_among id_of id xs = list_any (λ x. int_eq (id_of x) id) xs
+
+-- the first of them that has the id
+abbrev pub with_id : {A : Type 0} → (A → ℤ) → ℤ → List A → Option A
+with_id id_of id xs = find (λ x. int_eq (id_of x) id) xs
 
 -- the first of the numbers that comes again
 abbrev pub again : List ℤ → Option ℤ

@@ -27,7 +27,7 @@ use Rattle.ice_meta.specs.declared.snapshot.RefKind.TheVariants as kind
 use Rattle.ice_meta.specs.declared.table.Table.{Table}
 use Rattle.ice_meta.specs.Members.{asked, perhaps, objects_of, long_in, int_in, sequence_number_in, text_in, objects_in}
 use Rattle.ice_meta.specs.Members.{sequence_number_or_zero, optional_long, optional_int, optional_text}
-use Rattle.ice_meta.specs.Reading.{each, once}
+use Rattle.ice_meta.specs.Reading.{each, is_among, once}
 use Rattle.ice_meta.specs.Schemas.{schema_of}
 
 -- ---- values of one member
@@ -63,6 +63,18 @@ unfoldable pub current_snapshot_in : Data → Result (Option ℤ) MetaFault
 current_snapshot_in d = optional_long member.CurrentSnapshotId d >>= λ id. Ok (if_snapshot id)
 
 -- ---- schemas and specs
+
+-- what the objects of a member's array say, where no two have one id
+abbrev pub numbered_in : {A : Type 0} → (Data → Result A MetaFault) → (A → ℤ) → Member → Data
+    → Result (List A) MetaFault
+numbered_in said id_of m d = do
+  items ← objects_in m d
+  values ← each said items
+  once id_of values
+
+-- the id that a member says, where one of them has it
+abbrev pub id_among : {A : Type 0} → (A → ℤ) → List A → Member → Data → Result ℤ MetaFault
+id_among id_of xs m d = int_in m d >>= λ id. if_among m (is_among id_of id xs) id
 
 abbrev pub schema_id : Schema → ℤ
 schema_id schema = schema.id

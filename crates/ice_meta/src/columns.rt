@@ -5,11 +5,12 @@ ghost use Rattle.contract_words.specs.Outcome.{Gives};
 ghost use Rattle.serde_json.specs.View.{view, items_view};
 ghost use Rattle.ice_meta.specs.Reading.{each_into};
 ghost use Rattle.ice_meta.specs.Schemas.{type_in, within, added, field_at, fields_at, list_at, map_at, of_name};
-ghost use Rattle.ice_meta.specs.Schemas.{object_at, inside, if_struct, schema_of};
+ghost use Rattle.ice_meta.specs.Schemas.{object_at, inside, if_struct};
 
 use crate::fault::{Member, MetaFault};
+use crate::from_json::FromJson;
 use crate::members::{flag_at, int_at, kept, kept_text_at, objects_at, text_at, there};
-use crate::numbered::{Numbered, once};
+use crate::numbered::once;
 use crate::schema::{Column, Schema};
 use crate::types::primitive;
 use contract_words::{Items, Text};
@@ -19,16 +20,6 @@ use std::alloc::Global;
 
 /// How many levels a type may have: JSON nests no deeper.
 pub const MOST_LEVELS: u32 = 127;
-
-impl Numbered for Column {
-    ghost use Rattle.ice_meta.specs.Schemas.{column_id};
-
-    ghost id_of = { column_id };
-
-    fn number(&self) -> i64 {
-        self.id as i64
-    }
-}
 
 /// The type that a value is: a primitive one, or one with columns inside it.
 fn type_from(alloc: Global, json: &Value, member: Member) -> Result<Option<ColumnType>, MetaFault>
@@ -251,16 +242,19 @@ fn check_struct(alloc: Global, text: &str) -> Result<(), MetaFault>
     }
 }
 
-/// A schema.
-#[tactic(auto, unfolding(crate::specs::Schemas::schema_of))]
-pub fn schema_of(alloc: Global, json: &Value) -> Result<Schema, MetaFault>
-    ensures { Gives MetaFault.Memory (λ schema. schema) result (schema_of (view json.now)) }
-{
-    check_struct(alloc, text_at(json, Member::Type)?)?;
-    let id = int_at(json, Member::SchemaId)?;
-    let columns = fields_of(alloc, json, MOST_LEVELS, None, Items::new(alloc))?;
-    Ok(Schema {
-        id,
-        columns: once(alloc, columns)?,
-    })
+impl FromJson for Schema {
+    ghost use Rattle.ice_meta.specs.Schemas.{schema_of};
+
+    ghost said = { schema_of };
+
+    #[tactic(auto, unfolding(crate::specs::Schemas::schema_of))]
+    fn from_json(alloc: Global, json: &Value) -> Result<Schema, MetaFault> {
+        check_struct(alloc, text_at(json, Member::Type)?)?;
+        let id = int_at(json, Member::SchemaId)?;
+        let columns = fields_of(alloc, json, MOST_LEVELS, None, Items::new(alloc))?;
+        Ok(Schema {
+            id,
+            columns: once(alloc, columns)?,
+        })
+    }
 }

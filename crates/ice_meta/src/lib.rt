@@ -4,6 +4,7 @@
 mod columns;
 mod commit;
 mod fault;
+mod from_json;
 mod laws;
 mod log;
 mod members;

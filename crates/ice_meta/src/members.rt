@@ -37,20 +37,13 @@ pub fn perhaps<'a>(json: &'a Value, member: Member) -> Option<&'a Value>
 fn long_of(json: &Value, member: Member) -> Result<i64, MetaFault>
     ensures { Gives MetaFault.Memory (λ number. number) result (long_of member (view json.now)) }
 {
-    match json.as_i64() {
-        Some(number) => Ok(number),
-        None => Err(MetaFault::WrongKind(member)),
-    }
+    json.as_i64().ok_or(MetaFault::WrongKind(member))
 }
 
 fn if_int(number: i64) -> Option<i32>
     ensures { result ≡ if_int number }
 {
-    if number < -2147483648 || number > 2147483647 {
-        None
-    } else {
-        Some(number as i32)
-    }
+    i32::try_from(number).ok()
 }
 
 fn int_of(json: &Value, member: Member) -> Result<i32, MetaFault>
@@ -86,12 +79,7 @@ fn text_of<'a>(json: &'a Value, member: Member) -> Result<&'a str, MetaFault>
 fn all_objects(items: &Vec<Value>) -> bool
     ensures { result ≡ all_objects (items_view items.now.items) }
 {
-    'items: for item in items {
-        if !item.is_object() {
-            return false;
-        }
-    }
-    true
+    items.iter().all(|item| item.is_object())
 }
 
 /// The objects of an array.

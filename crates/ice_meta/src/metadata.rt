@@ -26,6 +26,7 @@ use crate::commit::NewSnapshot;
 use crate::fault::{Member, MetaFault};
 use crate::log::newest_time;
 use crate::next::{into_next_json, next_json};
+use crate::numbered::with_id;
 use crate::schema::Schema;
 use crate::schema_text::text_of_schema;
 use crate::snapshot::{Ref, RefKind, Snapshot};
@@ -202,11 +203,7 @@ impl Metadata {
     pub fn schema(&self, id: i32) -> Option<&Schema>
         ensures { option_copied result ≡ schema_with id self.now.table }
     {
-        self.table
-            .schemas
-            .as_slice()
-            .iter()
-            .find(|schema| schema.id == id)
+        with_id(self.table.schemas.as_slice(), id as i64)
     }
 
     /// The JSON text of the current schema, with the members that are read alone: without white space and with the
@@ -222,11 +219,7 @@ impl Metadata {
     fn written_spec(&self, id: i32) -> Option<&Spec>
         ensures { option_copied result ≡ spec_with id self.now.table }
     {
-        self.table
-            .specs
-            .as_slice()
-            .iter()
-            .find(|spec| spec.id == id)
+        with_id(self.table.specs.as_slice(), id as i64)
     }
 
     /// The spec of this id, with the types that its source columns have in the schema.
@@ -250,11 +243,7 @@ impl Metadata {
     pub fn snapshot(&self, id: i64) -> Option<&Snapshot>
         ensures { option_copied result ≡ snapshot_with id self.now.table }
     {
-        self.table
-            .snapshots
-            .as_slice()
-            .iter()
-            .find(|snapshot| snapshot.id == id)
+        with_id(self.table.snapshots.as_slice(), id)
     }
 
     fn ref_with(&self, name: &Text) -> Option<&Ref>
@@ -389,23 +378,6 @@ fn if_tag(found: &Ref) -> Option<i64>
     }
 }
 
-/// The field, with the type that its source column has in the schema.
-fn bound_field(
-    alloc: Global,
-    field: &PartitionField,
-    schema: &Schema,
-) -> Result<PartitionField, AllocError>
-    ensures { IfOk result (λ bound. bound ≡ bound_field schema.now field.now) }
-{
-    Ok(PartitionField {
-        source_id: field.source_id,
-        field_id: field.field_id,
-        name: field.name.copy(alloc)?,
-        transform: field.transform.copy(alloc)?,
-        source_type: schema.type_of(field.source_id),
-    })
-}
-
 /// The fields, with the types that their source columns have in the schema.
 fn bound_fields(
     alloc: Global,
@@ -416,7 +388,7 @@ fn bound_fields(
 {
     let mut bound = Items::new(alloc);
     'fields: for field in fields {
-        bound.push(bound_field(alloc, field, schema)?)?;
+        bound.push(field.bound_to(alloc, schema)?)?;
     }
     Ok(bound)
 }

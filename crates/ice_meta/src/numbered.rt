@@ -2,9 +2,10 @@
 
 ghost use Rattle.std.specs.Prelude.{◌≡◌, ℤ, map, IfOk};
 ghost use Rattle.std.specs.List.{list_any, IsDistinct};
+ghost use Rattle.std.specs.Option.{option_copied};
 ghost use Rattle.std.specs.Ordering.{int_eq};
 ghost use Rattle.contract_words.specs.Outcome.{Gives};
-ghost use Rattle.ice_meta.specs.Reading.{again, once};
+ghost use Rattle.ice_meta.specs.Reading.{again, is_among, once, with_id};
 
 use crate::fault::MetaFault;
 use contract_words::Items;
@@ -29,6 +30,20 @@ fn ids_of<T: Numbered>(alloc: Global, items: &[T]) -> Result<Vec<i64>, AllocErro
         ids.push(item.number())?;
     }
     Ok(ids)
+}
+
+/// Whether one of the items has the id.
+pub fn is_among<T: Numbered>(items: &[T], id: i32) -> bool
+    ensures { result ≡ is_among T.id_of id items.now }
+{
+    items.iter().any(|item| item.number() == id as i64)
+}
+
+/// The first item that has the id.
+pub fn with_id<T: Numbered>(items: &[T], id: i64) -> Option<&T>
+    ensures { option_copied result ≡ with_id T.id_of id items.now }
+{
+    items.iter().find(|item| item.number() == id)
 }
 
 /// Whether the id is among these.

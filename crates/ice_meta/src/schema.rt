@@ -4,6 +4,7 @@ ghost use Rattle.std.specs.Prelude.{◌≡◌, None, Some, slice_get};
 ghost use Rattle.std.specs.Option.{option_and_then, option_copied};
 ghost use Rattle.ice_meta.specs.Columns.{is_field, field_place, place_on, column_on, column_of, type_of};
 
+use crate::numbered::Numbered;
 use contract_words::{Items, Text};
 use ice_value::ColumnType;
 
@@ -27,6 +28,26 @@ pub struct Schema {
     pub id: i32,
     /// The columns at their places.
     pub columns: Items<Column>,
+}
+
+impl Numbered for Column {
+    ghost use Rattle.ice_meta.specs.Schemas.{column_id};
+
+    ghost id_of = { column_id };
+
+    fn number(&self) -> i64 {
+        self.id as i64
+    }
+}
+
+impl Numbered for Schema {
+    ghost use Rattle.ice_meta.specs.Tables.{schema_id};
+
+    ghost id_of = { schema_id };
+
+    fn number(&self) -> i64 {
+        self.id as i64
+    }
 }
 
 impl Column {

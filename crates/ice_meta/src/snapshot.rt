@@ -1,5 +1,6 @@
 //! Snapshots, and the branches and tags that name them.
 
+use crate::numbered::Numbered;
 use contract_words::Text;
 use ice_value::SequenceNumber;
 
@@ -20,6 +21,16 @@ pub struct Snapshot {
     pub operation: Option<Text>,
     /// The id of the schema that was current when it was made.
     pub schema_id: Option<i32>,
+}
+
+impl Numbered for Snapshot {
+    ghost use Rattle.ice_meta.specs.Tables.{snapshot_id};
+
+    ghost id_of = { snapshot_id };
+
+    fn number(&self) -> i64 {
+        self.id
+    }
 }
 
 /// What names a snapshot.

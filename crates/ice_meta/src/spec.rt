@@ -1,11 +1,14 @@
 //! Partition specs.
 
-ghost use Rattle.std.specs.Prelude.{◌≡◌};
+ghost use Rattle.std.specs.Prelude.{◌≡◌, IfOk};
+ghost use Rattle.ice_meta.specs.Targets.{bound_field};
 ghost use Rattle.ice_meta.specs.Partitioning.{without_fields, is_void, is_unpartitioned};
 
+use crate::numbered::Numbered;
+use crate::schema::Schema;
 use contract_words::{Items, Text};
 use ice_value::ColumnType;
-use std::alloc::Global;
+use std::alloc::{AllocError, Global};
 
 /// A partition field: a column's values under a transform.
 #[derive(Debug, PartialEq, Drop)]
@@ -29,6 +32,29 @@ impl PartitionField {
         ensures { result ≡ is_void self.now }
     {
         self.transform.as_str() == "void"
+    }
+
+    /// The field, with the type that its source column has in the schema.
+    pub(crate) fn bound_to(&self, alloc: Global, schema: &Schema) -> Result<Self, AllocError>
+        ensures { IfOk result (λ bound. bound ≡ bound_field schema.now self.now) }
+    {
+        Ok(PartitionField {
+            source_id: self.source_id,
+            field_id: self.field_id,
+            name: self.name.copy(alloc)?,
+            transform: self.transform.copy(alloc)?,
+            source_type: schema.type_of(self.source_id),
+        })
+    }
+}
+
+impl Numbered for PartitionField {
+    ghost use Rattle.ice_meta.specs.Tables.{field_id};
+
+    ghost id_of = { field_id };
+
+    fn number(&self) -> i64 {
+        self.field_id as i64
     }
 }
 
@@ -62,5 +88,15 @@ impl Spec {
             }
         }
         true
+    }
+}
+
+impl Numbered for Spec {
+    ghost use Rattle.ice_meta.specs.Tables.{spec_id};
+
+    ghost id_of = { spec_id };
+
+    fn number(&self) -> i64 {
+        self.id as i64
     }
 }

@@ -5,23 +5,22 @@ ghost use Rattle.std.specs.List.{IsDistinct};
 ghost use Rattle.std.specs.Ordering.{int_eq};
 ghost use Rattle.contract_words.specs.Outcome.{Gives};
 ghost use Rattle.serde_json.specs.View.{view, items_view, members_view};
-ghost use Rattle.ice_meta.specs.Reading.{each};
-ghost use Rattle.ice_meta.specs.Schemas.{schema_of as schema_in};
+ghost use Rattle.ice_meta.specs.Reading.{is_among};
 ghost use Rattle.ice_meta.specs.Tables.{if_second, version_in, uuid_in, if_short, location_in, if_among, if_snapshot};
-ghost use Rattle.ice_meta.specs.Tables.{current_snapshot_in, schemas_in, has_schema, current_schema_in};
-ghost use Rattle.ice_meta.specs.Tables.{partition_field_of, if_few, spec_of, specs_in, has_spec, default_spec_in};
-ghost use Rattle.ice_meta.specs.Tables.{object_of, operation_of, operation_in, snapshot_of, snapshots_in, kind_of};
+ghost use Rattle.ice_meta.specs.Tables.{current_snapshot_in, numbered_in, schemas_in, id_among, has_schema};
+ghost use Rattle.ice_meta.specs.Tables.{current_schema_in, if_few, specs_in, has_spec, default_spec_in};
+ghost use Rattle.ice_meta.specs.Tables.{object_of, operation_of, operation_in, snapshots_in, kind_of};
 ghost use Rattle.ice_meta.specs.Tables.{ref_of, each_ref, refs_in, HasCurrentSchema, HasDefaultSpec};
 ghost use Rattle.ice_meta.specs.Tables.{HasDifferentSchemas, HasDifferentSpecs, HasDifferentSnapshots, schema_id};
 ghost use Rattle.ice_meta.specs.Tables.{spec_id, snapshot_id, table_of};
 
-use crate::columns::schema_of;
 use crate::fault::{Member, MetaFault};
+use crate::from_json::{FromJson, each};
 use crate::members::{
     int_at, kept, kept_text_at, long_at, objects_at, objects_of, optional_int, optional_long,
     optional_text, perhaps, sequence_number_at, sequence_number_or_zero, text_at,
 };
-use crate::numbered::{Numbered, once};
+use crate::numbered::{Numbered, is_among, once};
 use crate::schema::Schema;
 use crate::snapshot::{Ref, RefKind, Snapshot};
 use crate::spec::{PartitionField, Spec};
@@ -36,46 +35,6 @@ const LONGEST_LOCATION: usize = 65_000;
 
 /// How many fields a partition spec may have.
 const MOST_FIELDS: usize = 64;
-
-impl Numbered for Schema {
-    ghost use Rattle.ice_meta.specs.Tables.{schema_id};
-
-    ghost id_of = { schema_id };
-
-    fn number(&self) -> i64 {
-        self.id as i64
-    }
-}
-
-impl Numbered for Spec {
-    ghost use Rattle.ice_meta.specs.Tables.{spec_id};
-
-    ghost id_of = { spec_id };
-
-    fn number(&self) -> i64 {
-        self.id as i64
-    }
-}
-
-impl Numbered for PartitionField {
-    ghost use Rattle.ice_meta.specs.Tables.{field_id};
-
-    ghost id_of = { field_id };
-
-    fn number(&self) -> i64 {
-        self.field_id as i64
-    }
-}
-
-impl Numbered for Snapshot {
-    ghost use Rattle.ice_meta.specs.Tables.{snapshot_id};
-
-    ghost id_of = { snapshot_id };
-
-    fn number(&self) -> i64 {
-        self.id
-    }
-}
 
 /// Stops at another format version than 2.
 #[tactic(auto, unfolding(crate::specs::Tables::version_in))]
@@ -124,68 +83,21 @@ fn current_snapshot_at(json: &Value) -> Result<Option<i64>, MetaFault>
     }
 }
 
-fn each_schema(alloc: Global, items: &Vec<Value>) -> Result<Items<Schema>, MetaFault>
-    ensures { Gives MetaFault.Memory (λ schemas. schemas) result (each schema_in (items_view items.now.items)) }
-{
-    let mut schemas = Items::new(alloc);
-    'schemas: for item in items {
-        schemas.push(schema_of(alloc, item)?)?;
+impl FromJson for PartitionField {
+    ghost use Rattle.ice_meta.specs.Tables.{partition_field_of};
+
+    ghost said = { partition_field_of };
+
+    #[tactic(auto, unfolding(crate::specs::Tables::partition_field_of))]
+    fn from_json(alloc: Global, json: &Value) -> Result<PartitionField, MetaFault> {
+        Ok(PartitionField {
+            source_id: int_at(json, Member::SourceId)?,
+            field_id: int_at(json, Member::FieldId)?,
+            name: kept_text_at(alloc, json, Member::Name)?,
+            transform: kept_text_at(alloc, json, Member::Transform)?,
+            source_type: None,
+        })
     }
-    Ok(schemas)
-}
-
-#[tactic(auto, unfolding(crate::specs::Tables::schemas_in))]
-fn schemas_at(alloc: Global, json: &Value) -> Result<Items<Schema>, MetaFault>
-    ensures read { Gives MetaFault.Memory (λ schemas. schemas) result (schemas_in (view json.now)) }
-    ensures different { IfOk result (λ schemas. IsDistinct int_eq (map schema_id schemas)) }
-{
-    let items = objects_at(json, Member::Schemas)?;
-    once(alloc, each_schema(alloc, items)?)
-}
-
-fn has_schema(schemas: &[Schema], id: i32) -> bool
-    ensures { result ≡ has_schema id schemas.now }
-{
-    schemas.iter().any(|schema| schema.id == id)
-}
-
-#[tactic(auto, unfolding(crate::specs::Tables::current_schema_in))]
-fn current_schema_at(json: &Value, schemas: &[Schema]) -> Result<i32, MetaFault>
-    ensures read { Gives MetaFault.Memory (λ id. id) result (current_schema_in schemas.now (view json.now)) }
-    ensures named { IfOk result (λ id. has_schema id schemas.now ≡ true) }
-{
-    let id = int_at(json, Member::CurrentSchemaId)?;
-    if has_schema(schemas, id) {
-        Ok(id)
-    } else {
-        Err(MetaFault::Dangling(Member::CurrentSchemaId))
-    }
-}
-
-#[tactic(auto, unfolding(crate::specs::Tables::partition_field_of))]
-fn partition_field_of(alloc: Global, json: &Value) -> Result<PartitionField, MetaFault>
-    ensures { Gives MetaFault.Memory (λ field. field) result (partition_field_of (view json.now)) }
-{
-    Ok(PartitionField {
-        source_id: int_at(json, Member::SourceId)?,
-        field_id: int_at(json, Member::FieldId)?,
-        name: kept_text_at(alloc, json, Member::Name)?,
-        transform: kept_text_at(alloc, json, Member::Transform)?,
-        source_type: None,
-    })
-}
-
-fn each_partition_field(
-    alloc: Global,
-    items: &Vec<Value>,
-) -> Result<Items<PartitionField>, MetaFault>
-    ensures { Gives MetaFault.Memory (λ fields. fields) result (each partition_field_of (items_view items.now.items)) }
-{
-    let mut fields = Items::new(alloc);
-    'fields: for item in items {
-        fields.push(partition_field_of(alloc, item)?)?;
-    }
-    Ok(fields)
 }
 
 /// Stops where there are more than 64.
@@ -200,28 +112,43 @@ fn check_count(items: &Vec<Value>) -> Result<(), MetaFault>
     }
 }
 
-#[tactic(auto, unfolding(crate::specs::Tables::spec_of))]
-fn spec_of(alloc: Global, json: &Value) -> Result<Spec, MetaFault>
-    ensures { Gives MetaFault.Memory (λ spec. spec) result (spec_of (view json.now)) }
-{
-    let id = int_at(json, Member::SpecId)?;
-    let items = objects_at(json, Member::Fields)?;
-    check_count(items)?;
-    let fields = each_partition_field(alloc, items)?;
-    Ok(Spec {
-        id,
-        fields: once(alloc, fields)?,
-    })
+impl FromJson for Spec {
+    ghost use Rattle.ice_meta.specs.Tables.{spec_of};
+
+    ghost said = { spec_of };
+
+    #[tactic(auto, unfolding(crate::specs::Tables::spec_of))]
+    fn from_json(alloc: Global, json: &Value) -> Result<Spec, MetaFault> {
+        let id = int_at(json, Member::SpecId)?;
+        let items = objects_at(json, Member::Fields)?;
+        check_count(items)?;
+        let fields = each(alloc, items)?;
+        Ok(Spec {
+            id,
+            fields: once(alloc, fields)?,
+        })
+    }
 }
 
-fn each_spec(alloc: Global, items: &Vec<Value>) -> Result<Items<Spec>, MetaFault>
-    ensures { Gives MetaFault.Memory (λ specs. specs) result (each spec_of (items_view items.now.items)) }
+/// What the objects of a member's array say, where no two have one id.
+fn numbered_at<T: FromJson + Numbered>(
+    alloc: Global,
+    json: &Value,
+    member: Member,
+) -> Result<Items<T>, MetaFault>
+    ensures read { Gives MetaFault.Memory (λ items. items) result (numbered_in T.said T.id_of member (view json.now)) }
+    ensures different { IfOk result (λ items. IsDistinct int_eq (map T.id_of items)) }
 {
-    let mut specs = Items::new(alloc);
-    'specs: for item in items {
-        specs.push(spec_of(alloc, item)?)?;
-    }
-    Ok(specs)
+    let items = objects_at(json, member)?;
+    once(alloc, each(alloc, items)?)
+}
+
+#[tactic(auto, unfolding(crate::specs::Tables::schemas_in))]
+fn schemas_at(alloc: Global, json: &Value) -> Result<Items<Schema>, MetaFault>
+    ensures read { Gives MetaFault.Memory (λ schemas. schemas) result (schemas_in (view json.now)) }
+    ensures different { IfOk result (λ schemas. IsDistinct int_eq (map schema_id schemas)) }
+{
+    numbered_at(alloc, json, Member::Schemas)
 }
 
 #[tactic(auto, unfolding(crate::specs::Tables::specs_in))]
@@ -229,14 +156,28 @@ fn specs_at(alloc: Global, json: &Value) -> Result<Items<Spec>, MetaFault>
     ensures read { Gives MetaFault.Memory (λ specs. specs) result (specs_in (view json.now)) }
     ensures different { IfOk result (λ specs. IsDistinct int_eq (map spec_id specs)) }
 {
-    let items = objects_at(json, Member::PartitionSpecs)?;
-    once(alloc, each_spec(alloc, items)?)
+    numbered_at(alloc, json, Member::PartitionSpecs)
 }
 
-fn has_spec(specs: &[Spec], id: i32) -> bool
-    ensures { result ≡ has_spec id specs.now }
+/// The id that a member says, where one of the items has it.
+fn id_among<T: Numbered>(json: &Value, member: Member, items: &[T]) -> Result<i32, MetaFault>
+    ensures read { Gives MetaFault.Memory (λ id. id) result (id_among T.id_of items.now member (view json.now)) }
+    ensures named { IfOk result (λ id. is_among T.id_of id items.now ≡ true) }
 {
-    specs.iter().any(|spec| spec.id == id)
+    let id = int_at(json, member)?;
+    if is_among(items, id) {
+        Ok(id)
+    } else {
+        Err(MetaFault::Dangling(member))
+    }
+}
+
+#[tactic(auto, unfolding(crate::specs::Tables::current_schema_in))]
+fn current_schema_at(json: &Value, schemas: &[Schema]) -> Result<i32, MetaFault>
+    ensures read { Gives MetaFault.Memory (λ id. id) result (current_schema_in schemas.now (view json.now)) }
+    ensures named { IfOk result (λ id. has_schema id schemas.now ≡ true) }
+{
+    id_among(json, Member::CurrentSchemaId, schemas)
 }
 
 #[tactic(auto, unfolding(crate::specs::Tables::default_spec_in))]
@@ -244,12 +185,7 @@ fn default_spec_at(json: &Value, specs: &[Spec]) -> Result<i32, MetaFault>
     ensures read { Gives MetaFault.Memory (λ id. id) result (default_spec_in specs.now (view json.now)) }
     ensures named { IfOk result (λ id. has_spec id specs.now ≡ true) }
 {
-    let id = int_at(json, Member::DefaultSpecId)?;
-    if has_spec(specs, id) {
-        Ok(id)
-    } else {
-        Err(MetaFault::Dangling(Member::DefaultSpecId))
-    }
+    id_among(json, Member::DefaultSpecId, specs)
 }
 
 /// Stops where the value of the member is no object.
@@ -281,29 +217,23 @@ fn operation_at(alloc: Global, json: &Value) -> Result<Option<Text>, MetaFault>
     }
 }
 
-#[tactic(auto, unfolding(crate::specs::Tables::snapshot_of))]
-fn snapshot_of(alloc: Global, json: &Value) -> Result<Snapshot, MetaFault>
-    ensures { Gives MetaFault.Memory (λ snapshot. snapshot) result (snapshot_of (view json.now)) }
-{
-    Ok(Snapshot {
-        id: long_at(json, Member::SnapshotId)?,
-        parent_id: optional_long(json, Member::ParentSnapshotId)?,
-        sequence_number: sequence_number_or_zero(json, Member::SequenceNumber)?,
-        timestamp_ms: long_at(json, Member::TimestampMs)?,
-        manifest_list: optional_text(alloc, json, Member::ManifestList)?,
-        operation: operation_at(alloc, json)?,
-        schema_id: optional_int(json, Member::SchemaId)?,
-    })
-}
+impl FromJson for Snapshot {
+    ghost use Rattle.ice_meta.specs.Tables.{snapshot_of};
 
-fn each_snapshot(alloc: Global, items: &Vec<Value>) -> Result<Items<Snapshot>, MetaFault>
-    ensures { Gives MetaFault.Memory (λ snapshots. snapshots) result (each snapshot_of (items_view items.now.items)) }
-{
-    let mut snapshots = Items::new(alloc);
-    'snapshots: for item in items {
-        snapshots.push(snapshot_of(alloc, item)?)?;
+    ghost said = { snapshot_of };
+
+    #[tactic(auto, unfolding(crate::specs::Tables::snapshot_of))]
+    fn from_json(alloc: Global, json: &Value) -> Result<Snapshot, MetaFault> {
+        Ok(Snapshot {
+            id: long_at(json, Member::SnapshotId)?,
+            parent_id: optional_long(json, Member::ParentSnapshotId)?,
+            sequence_number: sequence_number_or_zero(json, Member::SequenceNumber)?,
+            timestamp_ms: long_at(json, Member::TimestampMs)?,
+            manifest_list: optional_text(alloc, json, Member::ManifestList)?,
+            operation: operation_at(alloc, json)?,
+            schema_id: optional_int(json, Member::SchemaId)?,
+        })
     }
-    Ok(snapshots)
 }
 
 #[tactic(auto, unfolding(crate::specs::Tables::snapshots_in))]
@@ -314,7 +244,7 @@ fn snapshots_at(alloc: Global, json: &Value) -> Result<Items<Snapshot>, MetaFaul
     match perhaps(json, Member::Snapshots) {
         Some(value) => {
             let items = objects_of(value, Member::Snapshots)?;
-            once(alloc, each_snapshot(alloc, items)?)
+            once(alloc, each(alloc, items)?)
         }
         None => Ok(Items::new(alloc)),
     }
