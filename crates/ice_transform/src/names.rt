@@ -19,12 +19,7 @@ fn with_digit(number: u32, digit: u8) -> Option<u32>
     if digit < b'0' || digit > b'9' {
         return None;
     }
-    let next = number as u64 * 10 + (digit - b'0') as u64;
-    if next < 0x1_0000_0000 {
-        Some(next as u32)
-    } else {
-        None
-    }
+    number.checked_mul(10)?.checked_add((digit - b'0') as u32)
 }
 
 /// The number of the digits, where a closing bracket follows them and ends the bytes.

@@ -45,6 +45,9 @@ pub enum Transform {
     Unknown(Text),
 }
 
+/// The value of a cell, where there is one. Only want of memory is refused.
+type Applied = Result<Option<Cell>, AllocError>;
+
 const MICROSECONDS_PER_DAY: i64 = 86_400_000_000;
 
 const MICROSECONDS_PER_HOUR: i64 = 3_600_000_000;
@@ -85,12 +88,7 @@ impl Transform {
     /// where it doesn't take the source type, and where the value would leave the type of its values: a truncated
     /// number below the least one, an hour outside 32 bits, the year or month of a day outside the years -9999 to 9999.
     /// Only a value that is a text or a byte string takes memory.
-    pub fn apply(
-        &self,
-        alloc: Global,
-        source: &ColumnType,
-        cell: &Cell,
-    ) -> Result<Option<Cell>, AllocError>
+    pub fn apply(&self, alloc: Global, source: &ColumnType, cell: &Cell) -> Applied
         ensures value { IfOk result (λ value. value ≡ value_of self.now source.now cell.now) }
         ensures memory { IfErr result (λ _. KeepsBytes (value_of self.now source.now cell.now)) }
     {
@@ -206,12 +204,7 @@ fn bucket_cell(bytes: &[u8], buckets: Parameter) -> Cell
 }
 
 /// The number rounded down, or the text or byte string cut.
-fn truncated(
-    alloc: Global,
-    width: Parameter,
-    source: &ColumnType,
-    cell: &Cell,
-) -> Result<Option<Cell>, AllocError>
+fn truncated(alloc: Global, width: Parameter, source: &ColumnType, cell: &Cell) -> Applied
     ensures value { IfOk result (λ value. value ≡ truncated width.number source.now cell.now) }
     ensures memory { IfErr result (λ _. KeepsBytes (truncated width.number source.now cell.now)) }
 {
