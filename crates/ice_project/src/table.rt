@@ -1,7 +1,7 @@
 //! The projection of tests, line by line.
 
 ghost use Rattle.std.specs.Prelude.{◌≡◌, [], ◌∷◌, IfOk, if◌then◌else◌};
-ghost use Rattle.std.specs.Option.{option_map, option_and_then};
+ghost use Rattle.std.specs.Option.{option_map, option_and_then, option_copied};
 ghost use Rattle.ice_transform.specs.Values.{value_of};
 ghost use Rattle.ice_value.specs.declared.cell.Cell.{Cell};
 ghost use Rattle.ice_filter.specs.declared.bound.Test.{Test};
@@ -59,176 +59,6 @@ fn behind(source: &ColumnType, literal: &Cell) -> Option<Cell>
     }
 }
 
-/// The transform's values of all literals, where each has one.
-fn values(
-    alloc: Global,
-    transform: &Transform,
-    source: &ColumnType,
-    literals: &[Cell],
-) -> Result<Option<Items<Cell>>, AllocError>
-    ensures { IfOk result (λ found. found ≡ values (value_of transform.now source.now) literals.now) }
-{
-    let mut found = Items::with_capacity(alloc, literals.len())?;
-    'literals: for literal in literals {
-        match transform.apply(alloc, source, literal)? {
-            Some(value) => found.push(value)?,
-            None => return Ok(None),
-        }
-    }
-    Ok(Some(found))
-}
-
-/// Equal to the transform's value of one of the literals.
-fn among(
-    alloc: Global,
-    transform: &Transform,
-    source: &ColumnType,
-    literals: &[Cell],
-) -> Result<Option<Test>, AllocError>
-    ensures { IfOk result (λ test. test
-        ≡ option_map Test.Among (values (value_of transform.now source.now) literals.now)) }
-{
-    match values(alloc, transform, source, literals)? {
-        Some(found) => Ok(Some(Test::Among(found))),
-        None => Ok(None),
-    }
-}
-
-/// No greater than the transform's value of the literal.
-fn at_most(
-    alloc: Global,
-    transform: &Transform,
-    source: &ColumnType,
-    literal: &Cell,
-) -> Result<Option<Test>, AllocError>
-    ensures { IfOk result (λ test. test ≡ option_map Test.AtMost (value_of transform.now source.now literal.now)) }
-{
-    match transform.apply(alloc, source, literal)? {
-        Some(value) => Ok(Some(Test::AtMost(value))),
-        None => Ok(None),
-    }
-}
-
-/// No less than the transform's value of the literal.
-fn at_least(
-    alloc: Global,
-    transform: &Transform,
-    source: &ColumnType,
-    literal: &Cell,
-) -> Result<Option<Test>, AllocError>
-    ensures { IfOk result (λ test. test ≡ option_map Test.AtLeast (value_of transform.now source.now literal.now)) }
-{
-    match transform.apply(alloc, source, literal)? {
-        Some(value) => Ok(Some(Test::AtLeast(value))),
-        None => Ok(None),
-    }
-}
-
-/// No greater than the transform's value of what stands before the literal.
-fn below(
-    alloc: Global,
-    transform: &Transform,
-    source: &ColumnType,
-    literal: &Cell,
-) -> Result<Option<Test>, AllocError>
-    ensures { IfOk result (λ test. test ≡ option_map Test.AtMost
-        (option_and_then (value_of transform.now source.now) (before source.now literal.now))) }
-{
-    match before(source, literal) {
-        Some(less) => at_most(alloc, transform, source, &less),
-        None => Ok(None),
-    }
-}
-
-/// No less than the transform's value of what stands behind the literal.
-fn above(
-    alloc: Global,
-    transform: &Transform,
-    source: &ColumnType,
-    literal: &Cell,
-) -> Result<Option<Test>, AllocError>
-    ensures { IfOk result (λ test. test ≡ option_map Test.AtLeast
-        (option_and_then (value_of transform.now source.now) (behind source.now literal.now))) }
-{
-    match behind(source, literal) {
-        Some(more) => at_least(alloc, transform, source, &more),
-        None => Ok(None),
-    }
-}
-
-/// The projection through bucket.
-fn scattered(
-    alloc: Global,
-    transform: &Transform,
-    source: &ColumnType,
-    test: &Test,
-) -> Result<Option<Test>, AllocError>
-    ensures { IfOk result (λ projected. projected ≡ scattered (value_of transform.now source.now) test.now) }
-{
-    match test {
-        Test::Among(literals) => among(alloc, transform, source, literals.as_slice()),
-        Test::IsNull => Ok(Some(Test::IsNull)),
-        Test::IsPresent => Ok(Some(Test::IsPresent)),
-        _ => Ok(None),
-    }
-}
-
-/// The projection through truncate of whole numbers, year, month, day or hour.
-fn stepped(
-    alloc: Global,
-    transform: &Transform,
-    source: &ColumnType,
-    test: &Test,
-) -> Result<Option<Test>, AllocError>
-    ensures { IfOk result (λ projected. projected ≡ stepped (value_of transform.now source.now) source.now test.now) }
-{
-    match test {
-        Test::Less(literal) => below(alloc, transform, source, literal),
-        Test::AtMost(literal) => at_most(alloc, transform, source, literal),
-        Test::More(literal) => above(alloc, transform, source, literal),
-        Test::AtLeast(literal) => at_least(alloc, transform, source, literal),
-        Test::Among(literals) => among(alloc, transform, source, literals.as_slice()),
-        Test::IsNull => Ok(Some(Test::IsNull)),
-        Test::IsPresent => Ok(Some(Test::IsPresent)),
-        Test::NotAmong(_) | Test::StartsWith(_) => Ok(None),
-    }
-}
-
-/// The values of cut texts that start with this one.
-fn cut_start(
-    alloc: Global,
-    transform: &Transform,
-    width: Parameter,
-    source: &ColumnType,
-    start: &Text,
-) -> Result<Option<Test>, AllocError>
-    ensures { IfOk result (λ projected. projected
-        ≡ cut_start (value_of transform.now source.now) width.number start.now) }
-{
-    let start = start.copy(alloc)?;
-    if has_points(start.as_str(), width.get() as usize) {
-        equal_cut(alloc, transform, source, start)
-    } else {
-        Ok(Some(Test::StartsWith(start)))
-    }
-}
-
-/// Equal to the transform's value of the text.
-fn equal_cut(
-    alloc: Global,
-    transform: &Transform,
-    source: &ColumnType,
-    text: Text,
-) -> Result<Option<Test>, AllocError>
-    ensures { IfOk result (λ test. test ≡ option_map (λ p. Test.Among (p ∷ []))
-        (value_of transform.now source.now (Cell.Text text))) }
-{
-    match transform.apply(alloc, source, &Cell::Text(text))? {
-        Some(value) => Ok(Some(Test::Among(single(alloc, value)?))),
-        None => Ok(None),
-    }
-}
-
 fn single(alloc: Global, cell: Cell) -> Result<Items<Cell>, AllocError>
     ensures { IfOk result (λ cells. cells ≡ cell ∷ []) }
 {
@@ -237,49 +67,155 @@ fn single(alloc: Global, cell: Cell) -> Result<Items<Cell>, AllocError>
     Ok(cells)
 }
 
-/// The projection through truncate of texts or byte strings.
-fn cut(
-    alloc: Global,
-    transform: &Transform,
-    width: Parameter,
-    source: &ColumnType,
-    test: &Test,
-) -> Result<Option<Test>, AllocError>
-    ensures { IfOk result (λ projected. projected ≡ cut (value_of transform.now source.now) width.number test.now) }
-{
-    match test {
-        Test::Less(literal) | Test::AtMost(literal) => at_most(alloc, transform, source, literal),
-        Test::More(literal) | Test::AtLeast(literal) => at_least(alloc, transform, source, literal),
-        Test::Among(literals) => among(alloc, transform, source, literals.as_slice()),
-        Test::IsNull => Ok(Some(Test::IsNull)),
-        Test::IsPresent => Ok(Some(Test::IsPresent)),
-        Test::StartsWith(start) => cut_start(alloc, transform, width, source, start),
-        Test::NotAmong(_) => Ok(None),
-    }
-}
-
 fn is_cut(source: &ColumnType) -> bool
     ensures { result ≡ is_cut source.now }
 {
     matches!(source, ColumnType::String | ColumnType::Binary)
 }
 
-/// The projection through truncate.
-fn truncated(
+/// A transform of the values of a column of this type.
+#[derive(Clone, Copy)]
+struct Projection<'a> {
     alloc: Global,
-    transform: &Transform,
-    width: Parameter,
-    source: &ColumnType,
-    test: &Test,
-) -> Result<Option<Test>, AllocError>
-    ensures { IfOk result (λ projected. projected ≡ (if is_cut source.now
-        then cut (value_of transform.now source.now) width.number test.now
-        else stepped (value_of transform.now source.now) source.now test.now)) }
-{
-    if is_cut(source) {
-        cut(alloc, transform, width, source, test)
-    } else {
-        stepped(alloc, transform, source, test)
+    transform: &'a Transform,
+    source: &'a ColumnType,
+}
+
+impl Projection<'_> {
+    /// The transform's value of a cell, where there is one.
+    fn value_of(&self, cell: Option<&Cell>) -> Result<Option<Cell>, AllocError>
+        ensures { IfOk result (λ value. value
+            ≡ option_and_then (value_of self.now.transform.now self.now.source.now) (option_copied cell.entry)) }
+    {
+        match cell {
+            Some(cell) => self.transform.apply(self.alloc, self.source, cell),
+            None => Ok(None),
+        }
+    }
+
+    /// The transform's values of all literals, where each has one.
+    fn values(&self, literals: &[Cell]) -> Result<Option<Items<Cell>>, AllocError>
+        ensures { IfOk result (λ found. found
+            ≡ values (value_of self.now.transform.now self.now.source.now) literals.now) }
+    {
+        let mut found = Items::with_capacity(self.alloc, literals.len())?;
+        'literals: for literal in literals {
+            match self.transform.apply(self.alloc, self.source, literal)? {
+                Some(value) => found.push(value)?,
+                None => return Ok(None),
+            }
+        }
+        Ok(Some(found))
+    }
+
+    /// Equal to the transform's value of one of the literals.
+    fn among(&self, literals: &[Cell]) -> Result<Option<Test>, AllocError>
+        ensures { IfOk result (λ test. test
+            ≡ option_map Test.Among (values (value_of self.now.transform.now self.now.source.now) literals.now)) }
+    {
+        Ok(self.values(literals)?.map(|found| Test::Among(found)))
+    }
+
+    /// No greater than the transform's value of the cell.
+    fn at_most(&self, cell: Option<&Cell>) -> Result<Option<Test>, AllocError>
+        ensures { IfOk result (λ test. test ≡ option_map Test.AtMost
+            (option_and_then (value_of self.now.transform.now self.now.source.now) (option_copied cell.entry))) }
+    {
+        Ok(self.value_of(cell)?.map(|value| Test::AtMost(value)))
+    }
+
+    /// No less than the transform's value of the cell.
+    fn at_least(&self, cell: Option<&Cell>) -> Result<Option<Test>, AllocError>
+        ensures { IfOk result (λ test. test ≡ option_map Test.AtLeast
+            (option_and_then (value_of self.now.transform.now self.now.source.now) (option_copied cell.entry))) }
+    {
+        Ok(self.value_of(cell)?.map(|value| Test::AtLeast(value)))
+    }
+
+    /// The projection through bucket.
+    fn scattered(&self, test: &Test) -> Result<Option<Test>, AllocError>
+        ensures { IfOk result (λ projected. projected
+            ≡ scattered (value_of self.now.transform.now self.now.source.now) test.now) }
+    {
+        match test {
+            Test::Among(literals) => self.among(literals.as_slice()),
+            Test::IsNull => Ok(Some(Test::IsNull)),
+            Test::IsPresent => Ok(Some(Test::IsPresent)),
+            _ => Ok(None),
+        }
+    }
+
+    /// The projection through truncate of whole numbers, year, month, day or hour.
+    fn stepped(&self, test: &Test) -> Result<Option<Test>, AllocError>
+        ensures { IfOk result (λ projected. projected
+            ≡ stepped (value_of self.now.transform.now self.now.source.now) self.now.source.now test.now) }
+    {
+        match test {
+            Test::Less(literal) => self.at_most(before(self.source, literal).as_ref()),
+            Test::AtMost(literal) => self.at_most(Some(literal)),
+            Test::More(literal) => self.at_least(behind(self.source, literal).as_ref()),
+            Test::AtLeast(literal) => self.at_least(Some(literal)),
+            Test::Among(literals) => self.among(literals.as_slice()),
+            Test::IsNull => Ok(Some(Test::IsNull)),
+            Test::IsPresent => Ok(Some(Test::IsPresent)),
+            Test::NotAmong(_) | Test::StartsWith(_) => Ok(None),
+        }
+    }
+
+    /// The values of cut texts that start with this one.
+    fn cut_start(&self, width: Parameter, start: &Text) -> Result<Option<Test>, AllocError>
+        ensures { IfOk result (λ projected. projected
+            ≡ cut_start (value_of self.now.transform.now self.now.source.now) width.number start.now) }
+    {
+        let start = start.copy(self.alloc)?;
+        if has_points(start.as_str(), width.get() as usize) {
+            self.equal_cut(start)
+        } else {
+            Ok(Some(Test::StartsWith(start)))
+        }
+    }
+
+    /// Equal to the transform's value of the text.
+    fn equal_cut(&self, text: Text) -> Result<Option<Test>, AllocError>
+        ensures { IfOk result (λ test. test ≡ option_map (λ p. Test.Among (p ∷ []))
+            (value_of self.now.transform.now self.now.source.now (Cell.Text text))) }
+    {
+        match self
+            .transform
+            .apply(self.alloc, self.source, &Cell::Text(text))?
+        {
+            Some(value) => Ok(Some(Test::Among(single(self.alloc, value)?))),
+            None => Ok(None),
+        }
+    }
+
+    /// The projection through truncate of texts or byte strings.
+    fn cut(&self, width: Parameter, test: &Test) -> Result<Option<Test>, AllocError>
+        ensures { IfOk result (λ projected. projected
+            ≡ cut (value_of self.now.transform.now self.now.source.now) width.number test.now) }
+    {
+        match test {
+            Test::Less(literal) | Test::AtMost(literal) => self.at_most(Some(literal)),
+            Test::More(literal) | Test::AtLeast(literal) => self.at_least(Some(literal)),
+            Test::Among(literals) => self.among(literals.as_slice()),
+            Test::IsNull => Ok(Some(Test::IsNull)),
+            Test::IsPresent => Ok(Some(Test::IsPresent)),
+            Test::StartsWith(start) => self.cut_start(width, start),
+            Test::NotAmong(_) => Ok(None),
+        }
+    }
+
+    /// The projection through truncate.
+    fn truncated(&self, width: Parameter, test: &Test) -> Result<Option<Test>, AllocError>
+        ensures { IfOk result (λ projected. projected ≡ (if is_cut self.now.source.now
+            then cut (value_of self.now.transform.now self.now.source.now) width.number test.now
+            else stepped (value_of self.now.transform.now self.now.source.now) self.now.source.now test.now)) }
+    {
+        if is_cut(self.source) {
+            self.cut(width, test)
+        } else {
+            self.stepped(test)
+        }
     }
 }
 
@@ -292,14 +228,19 @@ pub fn project_test(
 ) -> Result<Option<Test>, AllocError>
     ensures { IfOk result (λ projected. projected ≡ projected_test transform.now source.now test.now) }
 {
+    let through = Projection {
+        alloc,
+        transform,
+        source,
+    };
     match transform {
         Transform::Identity => Ok(Some(test.copy(alloc)?)),
-        Transform::Bucket(_) => scattered(alloc, transform, source, test),
-        Transform::Truncate(width) => truncated(alloc, transform, *width, source, test),
-        Transform::Year => stepped(alloc, transform, source, test),
-        Transform::Month => stepped(alloc, transform, source, test),
-        Transform::Day => stepped(alloc, transform, source, test),
-        Transform::Hour => stepped(alloc, transform, source, test),
+        Transform::Bucket(_) => through.scattered(test),
+        Transform::Truncate(width) => through.truncated(*width, test),
+        Transform::Year => through.stepped(test),
+        Transform::Month => through.stepped(test),
+        Transform::Day => through.stepped(test),
+        Transform::Hour => through.stepped(test),
         Transform::Void | Transform::Unknown(_) => Ok(None),
     }
 }
