@@ -13,3 +13,4 @@ pub mod Order
 pub mod Stands
 pub mod Faults
 pub mod First
+pub mod Refusals

@@ -17,6 +17,7 @@ ghost use Rattle.avro_schema.specs.Shape.{Shape, IsTwice};
 ghost use Rattle.avro_schema.specs.Stands.{Meaning, Stands, NamesOf};
 ghost use Rattle.avro_schema.specs.Faults.{HasUnknownName, HasNameTwice, HasIdTwice};
 ghost use Rattle.avro_schema.specs.First.{HasFirst};
+ghost use Rattle.avro_schema.specs.Refusals.{IsOnlyFor, IsRefused};
 ghost use Rattle.avro_schema.specs.Texts.{json_of, schema_of, most_nodes, most_levels};
 
 /// An accepted tree has at most 10,000 nodes and at most 32 levels.
@@ -41,10 +42,8 @@ pub fn used_name_stands_for_its_definition()
 
 /// A schema in which a name is used inside its own definition is refused, and `Recursive` is answered for no other.
 pub fn recursion_is_refused()
-    ensures refused { (text : List ℕ) (d : Data) (t : Tree)
-        → json_of text ≡ Ok d → HasRecursion [] d → schema_of text ≡ Ok t → ⊥ }
-    ensures nothing_else { (text : List ℕ) (d : Data)
-        → json_of text ≡ Ok d → schema_of text ≡ Err Recursive → HasRecursion [] d }
+    ensures refused { IsRefused (HasRecursion []) }
+    ensures nothing_else { IsOnlyFor Recursive (HasRecursion []) }
 {}
 
 /// The tree of a schema that uses no name is the shape of its JSON. It is accepted where that is small enough, unless a
@@ -82,18 +81,14 @@ pub fn type_inside_has_a_place()
 
 /// A schema in which a name is used that nothing before defines is refused, and `UnknownName` is answered for no other.
 pub fn unknown_name_is_refused()
-    ensures refused { (text : List ℕ) (d : Data) (t : Tree)
-        → json_of text ≡ Ok d → HasUnknownName [] d → schema_of text ≡ Ok t → ⊥ }
-    ensures nothing_else { (text : List ℕ) (d : Data)
-        → json_of text ≡ Ok d → schema_of text ≡ Err UnknownName → HasUnknownName [] d }
+    ensures refused { IsRefused (HasUnknownName []) }
+    ensures nothing_else { IsOnlyFor UnknownName (HasUnknownName []) }
 {}
 
 /// A schema in which a name is defined twice is refused, and `NameTwice` is answered for no other.
 pub fn name_twice_is_refused()
-    ensures refused { (text : List ℕ) (d : Data) (t : Tree)
-        → json_of text ≡ Ok d → HasNameTwice [] d → schema_of text ≡ Ok t → ⊥ }
-    ensures nothing_else { (text : List ℕ) (d : Data)
-        → json_of text ≡ Ok d → schema_of text ≡ Err NameTwice → HasNameTwice [] d }
+    ensures refused { IsRefused (HasNameTwice []) }
+    ensures nothing_else { IsOnlyFor NameTwice (HasNameTwice []) }
 {}
 
 /// A schema in which two fields of one record have one id is refused, and `FieldTwice` is answered only for an id that
