@@ -13,16 +13,22 @@ use crate::fault::SchemaFault;
 use crate::full_name::FullName;
 use crate::repeat::{copy, is_higher, spend_below};
 use crate::schema::Schema;
+use std::alloc::Global;
 use std::collections::BTreeMap;
 
 /// What a walk carries along.
 #[derive(Drop)]
 pub struct Seen<'a> {
+    /// Where trees and names are kept.
+    pub alloc: Global,
     /// The full names that were met, each with its tree; without one while its definition is open.
     pub names: BTreeMap<FullName<'a>, Option<Schema>>,
     /// How many nodes may still come.
     pub left: u32,
 }
+
+/// A tree, and what the walk carries on.
+pub type Read<'a> = Result<(Schema, Seen<'a>), SchemaFault>;
 
 /// Whether a dot is in the name.
 fn is_dotted(name: &[u8]) -> bool
@@ -75,11 +81,7 @@ pub fn inner_space<'a>(space: &'a [u8], name: &'a [u8]) -> &'a [u8]
 }
 
 /// The tree of a name that was defined before.
-fn used_at<'a>(
-    name: FullName<'a>,
-    most: u32,
-    seen: Seen<'a>,
-) -> Result<(Schema, Seen<'a>), SchemaFault>
+fn used_at<'a>(name: FullName<'a>, most: u32, seen: Seen<'a>) -> Read<'a>
     ensures { Reads result (used most (lookup (joined name.entry) (met seen.entry).names) (met seen.entry)) }
 {
     match seen.names.get(&name) {
@@ -96,6 +98,7 @@ fn used_at<'a>(
             Ok((
                 copied,
                 Seen {
+                    alloc: seen.alloc,
                     names: seen.names,
                     left,
                 },
@@ -106,12 +109,7 @@ fn used_at<'a>(
 
 /// The tree of the type that a text names.
 #[tactic(auto, unfolding(crate::specs::Reading::named))]
-pub fn named_at<'a>(
-    text: &'a str,
-    most: u32,
-    space: &'a [u8],
-    seen: Seen<'a>,
-) -> Result<(Schema, Seen<'a>), SchemaFault>
+pub fn named_at<'a>(text: &'a str, most: u32, space: &'a [u8], seen: Seen<'a>) -> Read<'a>
     ensures { Reads result (named most space.now text.now (met seen.entry)) }
 {
     if let Some(schema) = plain_of(text) {
@@ -129,9 +127,13 @@ pub fn set<'a>(
     ensures { Gives SchemaFault.Memory met result (Ok
         (record (met seen.entry) { names = put (joined name.entry) (option_map tree schema) (met seen.entry).names })) }
 {
-    let Seen { mut names, left } = seen;
+    let Seen {
+        alloc,
+        mut names,
+        left,
+    } = seen;
     drop(names.insert(name, schema)?);
-    Ok(Seen { names, left })
+    Ok(Seen { alloc, names, left })
 }
 
 /// The names with a new one.
@@ -144,9 +146,13 @@ pub fn define<'a>(
     ensures { Gives SchemaFault.Memory met result
         (defined (joined name.entry) (option_map tree schema) (met seen.entry)) }
 {
-    let Seen { mut names, left } = seen;
+    let Seen {
+        alloc,
+        mut names,
+        left,
+    } = seen;
     match names.insert(name, schema)? {
         Some(_) => Err(SchemaFault::NameTwice),
-        None => Ok(Seen { names, left }),
+        None => Ok(Seen { alloc, names, left }),
     }
 }

@@ -19,11 +19,10 @@ use crate::attributes::{
 };
 use crate::fault::SchemaFault;
 use crate::full_name::FullName;
-use crate::names::{Seen, define, full_name, inner_space, named_at, set};
+use crate::names::{Read, Seen, define, full_name, inner_space, named_at, set};
 use crate::repeat::copy;
 use crate::schema::{Field, Schema};
 use serde_json::Value;
-use std::alloc::Global;
 use std::sync::Arc;
 
 /// What a type is in the one around it.
@@ -37,13 +36,12 @@ pub enum Role {
 /// The tree of a type, where so many levels may come.
 #[cycle(schema)]
 pub fn schema_of<'a>(
-    alloc: Global,
     json: &'a Value,
     levels: u32,
     role: Role,
     space: &'a [u8],
     seen: Seen<'a>,
-) -> Result<(Schema, Seen<'a>), SchemaFault>
+) -> Read<'a>
     ensures { Reads result (tree_at levels role space.now (view json.now) (met seen.entry)) }
 {
     if levels == 0 {
@@ -52,43 +50,32 @@ pub fn schema_of<'a>(
     if seen.left == 0 {
         return Err(SchemaFault::TooBig);
     }
-    let Seen { names, left } = seen;
+    let Seen { alloc, names, left } = seen;
     let now = Seen {
+        alloc,
         names,
         left: left - 1,
     };
-    node_of(alloc, json, levels - 1, role, space, now)
+    node_of(json, levels - 1, role, space, now)
 }
 
 /// The tree of a type that was counted, where so many levels may be below it.
 #[cycle(schema)]
 #[tactic(auto, unfolding(crate::specs::Reading::node_at))]
-fn node_of<'a>(
-    alloc: Global,
-    json: &'a Value,
-    most: u32,
-    role: Role,
-    space: &'a [u8],
-    seen: Seen<'a>,
-) -> Result<(Schema, Seen<'a>), SchemaFault>
+fn node_of<'a>(json: &'a Value, most: u32, role: Role, space: &'a [u8], seen: Seen<'a>) -> Read<'a>
     ensures { Reads result (node_at (tree_at most) most role space.now (view json.now) (met seen.entry)) }
 {
     match json {
         Value::String(text) => word_of(text.as_str(), most, space, seen),
-        Value::Array(items) => union_of(alloc, items, most, role, space, seen),
-        Value::Object(_) => object_of(alloc, json, most, space, seen),
+        Value::Array(items) => union_of(items, most, role, space, seen),
+        Value::Object(_) => object_of(json, most, space, seen),
         _ => Err(SchemaFault::UnknownType),
     }
 }
 
 /// The tree of a text that stands alone.
 #[tactic(auto, unfolding(crate::specs::Reading::text_at))]
-fn word_of<'a>(
-    text: &'a str,
-    most: u32,
-    space: &'a [u8],
-    seen: Seen<'a>,
-) -> Result<(Schema, Seen<'a>), SchemaFault>
+fn word_of<'a>(text: &'a str, most: u32, space: &'a [u8], seen: Seen<'a>) -> Read<'a>
     ensures { Reads result (tree_of_word most space.now text.now (met seen.entry)) }
 {
     match kind_from(text) {
@@ -101,20 +88,19 @@ fn word_of<'a>(
 #[cycle(schema)]
 #[tactic(auto, unfolding(crate::specs::Reading::union_at))]
 fn union_of<'a>(
-    alloc: Global,
     items: &'a Vec<Value>,
     most: u32,
     role: Role,
     space: &'a [u8],
     seen: Seen<'a>,
-) -> Result<(Schema, Seen<'a>), SchemaFault>
+) -> Read<'a>
     ensures { Reads result (union_at (tree_at most) role space.now (items_view items.now.items) (met seen.entry)) }
 {
     match role {
         Role::Branch => Err(SchemaFault::UnknownType),
         Role::Elsewhere => {
-            let (branches, seen) = branches_of(alloc, items, most, space, seen)?;
-            Ok((Schema::Union(Arc::new(alloc, branches)?), seen))
+            let (branches, seen) = branches_of(items, most, space, seen)?;
+            Ok((Schema::Union(Arc::new(seen.alloc, branches)?), seen))
         }
     }
 }
@@ -122,7 +108,6 @@ fn union_of<'a>(
 /// The trees of a union's branches.
 #[cycle(schema)]
 fn branches_of<'a>(
-    alloc: Global,
     items: &'a Vec<Value>,
     most: u32,
     space: &'a [u8],
@@ -131,10 +116,10 @@ fn branches_of<'a>(
     ensures { Gives SchemaFault.Memory (λ x. (trees x.0.items, met x.1)) result
         (branches_at (tree_at most Branch space.now) [] (items_view items.now.items) (met seen.entry)) }
 {
-    let mut branches = Vec::new(alloc);
+    let mut branches = Vec::new(seen.alloc);
     let mut now = seen;
     'branches: for item in items {
-        let (schema, after) = schema_of(alloc, item, most, Role::Branch, space, now)?;
+        let (schema, after) = schema_of(item, most, Role::Branch, space, now)?;
         branches.push(schema)?;
         now = after;
     }
@@ -144,24 +129,18 @@ fn branches_of<'a>(
 /// The tree of an object, by what its type text says.
 #[cycle(schema)]
 #[tactic(auto, unfolding(crate::specs::Reading::object_at))]
-fn object_of<'a>(
-    alloc: Global,
-    json: &'a Value,
-    most: u32,
-    space: &'a [u8],
-    seen: Seen<'a>,
-) -> Result<(Schema, Seen<'a>), SchemaFault>
+fn object_of<'a>(json: &'a Value, most: u32, space: &'a [u8], seen: Seen<'a>) -> Read<'a>
     ensures { Reads result (object_at (tree_at most) most space.now (view json.now) (met seen.entry)) }
 {
     let Some(text) = text_at(json, "type") else {
         return Err(SchemaFault::UnknownType);
     };
     match kind_from(text) {
-        Kind::Array => array_of(alloc, json, most, space, seen),
-        Kind::Map => map_of(alloc, json, most, space, seen),
-        Kind::Record => record_of(alloc, json, most, space, seen),
-        Kind::Enum => enum_of(alloc, json, space, seen),
-        Kind::Fixed => fixed_of(alloc, json, space, seen),
+        Kind::Array => array_of(json, most, space, seen),
+        Kind::Map => map_of(json, most, space, seen),
+        Kind::Record => record_of(json, most, space, seen),
+        Kind::Enum => enum_of(json, space, seen),
+        Kind::Fixed => fixed_of(json, space, seen),
         Kind::Bytes => Ok((Schema::Bytes(bytes_kind_of(json)), seen)),
         Kind::Word => named_at(text, most, space, seen),
     }
@@ -170,22 +149,16 @@ fn object_of<'a>(
 /// The tree of an array.
 #[cycle(schema)]
 #[tactic(auto, unfolding(crate::specs::Reading::array_at))]
-fn array_of<'a>(
-    alloc: Global,
-    json: &'a Value,
-    most: u32,
-    space: &'a [u8],
-    seen: Seen<'a>,
-) -> Result<(Schema, Seen<'a>), SchemaFault>
+fn array_of<'a>(json: &'a Value, most: u32, space: &'a [u8], seen: Seen<'a>) -> Read<'a>
     ensures { Reads result (array_at (tree_at most) space.now (view json.now) (met seen.entry)) }
 {
     let Some(items) = json.get("items") else {
         return Err(SchemaFault::UnknownType);
     };
-    let (schema, seen) = schema_of(alloc, items, most, Role::Elsewhere, space, seen)?;
+    let (schema, seen) = schema_of(items, most, Role::Elsewhere, space, seen)?;
     Ok((
         Schema::Array(
-            Arc::new(alloc, schema)?,
+            Arc::new(seen.alloc, schema)?,
             id_at(json, "element-id"),
             array_kind_of(json),
         ),
@@ -196,20 +169,14 @@ fn array_of<'a>(
 /// The tree of a map.
 #[cycle(schema)]
 #[tactic(auto, unfolding(crate::specs::Reading::map_at))]
-fn map_of<'a>(
-    alloc: Global,
-    json: &'a Value,
-    most: u32,
-    space: &'a [u8],
-    seen: Seen<'a>,
-) -> Result<(Schema, Seen<'a>), SchemaFault>
+fn map_of<'a>(json: &'a Value, most: u32, space: &'a [u8], seen: Seen<'a>) -> Read<'a>
     ensures { Reads result (map_at (tree_at most) space.now (view json.now) (met seen.entry)) }
 {
     let Some(values) = json.get("values") else {
         return Err(SchemaFault::UnknownType);
     };
-    let (schema, seen) = schema_of(alloc, values, most, Role::Elsewhere, space, seen)?;
-    Ok((Schema::Map(Arc::new(alloc, schema)?), seen))
+    let (schema, seen) = schema_of(values, most, Role::Elsewhere, space, seen)?;
+    Ok((Schema::Map(Arc::new(seen.alloc, schema)?), seen))
 }
 
 /// The namespace that an object gives, or the one around it.
@@ -231,12 +198,7 @@ fn defined_name<'a>(json: &'a Value, name: &'a str, space: &'a [u8]) -> FullName
 
 /// The tree of an enum, whose name is new.
 #[tactic(auto, unfolding(crate::specs::Reading::enum_at))]
-fn enum_of<'a>(
-    alloc: Global,
-    json: &'a Value,
-    space: &'a [u8],
-    seen: Seen<'a>,
-) -> Result<(Schema, Seen<'a>), SchemaFault>
+fn enum_of<'a>(json: &'a Value, space: &'a [u8], seen: Seen<'a>) -> Read<'a>
     ensures { Reads result (enum_at space.now (view json.now) (met seen.entry)) }
 {
     let Some(name) = name_of(json) else {
@@ -252,12 +214,7 @@ fn enum_of<'a>(
 
 /// The tree of a fixed, whose name is new.
 #[tactic(auto, unfolding(crate::specs::Reading::fixed_at))]
-fn fixed_of<'a>(
-    alloc: Global,
-    json: &'a Value,
-    space: &'a [u8],
-    seen: Seen<'a>,
-) -> Result<(Schema, Seen<'a>), SchemaFault>
+fn fixed_of<'a>(json: &'a Value, space: &'a [u8], seen: Seen<'a>) -> Read<'a>
     ensures { Reads result (fixed_at space.now (view json.now) (met seen.entry)) }
 {
     let Some(name) = name_of(json) else {
@@ -275,13 +232,7 @@ fn fixed_of<'a>(
 /// The tree of a record, whose name is open while its fields are read in its namespace.
 #[cycle(schema)]
 #[tactic(auto, unfolding(crate::specs::Reading::record_at))]
-fn record_of<'a>(
-    alloc: Global,
-    json: &'a Value,
-    most: u32,
-    space: &'a [u8],
-    seen: Seen<'a>,
-) -> Result<(Schema, Seen<'a>), SchemaFault>
+fn record_of<'a>(json: &'a Value, most: u32, space: &'a [u8], seen: Seen<'a>) -> Read<'a>
     ensures { Reads result (record_at (tree_at most) space.now (view json.now) (met seen.entry)) }
 {
     let Some(name) = name_of(json) else {
@@ -293,8 +244,8 @@ fn record_of<'a>(
     let whole = defined_name(json, name, space);
     let opened = define(whole, None, seen)?;
     let inner = inner_space(own_space(json, space), name.as_bytes());
-    let (fields, after) = fields_of(alloc, items, most, inner, opened)?;
-    let schema = Schema::Record(Arc::new(alloc, fields)?);
+    let (fields, after) = fields_of(items, most, inner, opened)?;
+    let schema = Schema::Record(Arc::new(after.alloc, fields)?);
     let kept = copy(&schema)?;
     let closed = set(whole, Some(kept), after)?;
     Ok((schema, closed))
@@ -303,7 +254,6 @@ fn record_of<'a>(
 /// The fields of a record.
 #[cycle(schema)]
 fn fields_of<'a>(
-    alloc: Global,
     items: &'a Vec<Value>,
     most: u32,
     space: &'a [u8],
@@ -312,10 +262,10 @@ fn fields_of<'a>(
     ensures { Gives SchemaFault.Memory (λ x. (parts x.0.items, met x.1)) result
         (fields_at (tree_at most Elsewhere space.now) [] (items_view items.now.items) (met seen.entry)) }
 {
-    let mut fields = Vec::new(alloc);
+    let mut fields = Vec::new(seen.alloc);
     let mut now = seen;
     'fields: for item in items {
-        let (field, after) = field_of(alloc, item, &fields, most, space, now)?;
+        let (field, after) = field_of(item, &fields, most, space, now)?;
         fields.push(field)?;
         now = after;
     }
@@ -341,7 +291,6 @@ fn fresh_id(id: Option<i32>, front: &Vec<Field>) -> Result<Option<i32>, SchemaFa
 #[cycle(schema)]
 #[tactic(auto, unfolding(crate::specs::Reading::field_at))]
 fn field_of<'a>(
-    alloc: Global,
     json: &'a Value,
     front: &Vec<Field>,
     most: u32,
@@ -358,6 +307,6 @@ fn field_of<'a>(
         return Err(SchemaFault::UnknownType);
     };
     let id = fresh_id(id_at(json, "field-id"), front)?;
-    let (schema, after) = schema_of(alloc, inner, most, Role::Elsewhere, space, seen)?;
+    let (schema, after) = schema_of(inner, most, Role::Elsewhere, space, seen)?;
     Ok((Field { id, schema }, after))
 }

@@ -46,10 +46,11 @@ impl Schema {
     {
         let json = json_from(alloc, text)?;
         let seen = Seen {
+            alloc,
             names: BTreeMap::new(alloc),
             left: MOST_NODES,
         };
-        let (schema, _) = schema_of(alloc, &json, MOST_LEVELS, Role::Elsewhere, &[], seen)?;
+        let (schema, _) = schema_of(&json, MOST_LEVELS, Role::Elsewhere, &[], seen)?;
         Ok(schema)
     }
 }
