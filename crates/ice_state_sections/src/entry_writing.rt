@@ -12,7 +12,7 @@ ghost use Rattle.ice_state_sections.specs.Written.{Adds};
 use crate::adding::{add_long, add_number, add_truth};
 use crate::before::Before;
 use crate::fits::fits;
-use crate::section_fault::SectionFault;
+use crate::section_fault::{Grown, SectionFault};
 use crate::value_writing::{add_cells, add_content, add_format, add_ids, add_path, add_referenced};
 use ice_manifest_reading::{LentEntry, Row};
 use ice_meta::Spec;
@@ -84,12 +84,7 @@ fn add_entry(
 }
 
 /// Puts entries last, if the manifest of the row may have them.
-fn add_each(
-    bytes: Vec<u8>,
-    row: &Row,
-    spec: &Spec,
-    entries: &[LentEntry<'_>],
-) -> Result<Vec<u8>, SectionFault>
+fn add_each(bytes: Vec<u8>, row: &Row, spec: &Spec, entries: &[LentEntry<'_>]) -> Grown
     ensures ok { IfOk result (λ all.
         Adds (behind (entry_said row.now spec.now) (length entries.now) []) (map lent entries.now)
         bytes.items all.items) }
@@ -114,7 +109,7 @@ pub(crate) fn add_entries(
     row: &Row,
     spec: &Spec,
     entries: &[LentEntry<'_>],
-) -> Result<Vec<u8>, SectionFault>
+) -> Grown
     ensures ok { IfOk result (λ all.
         Adds (entries_said row.now spec.now) (map lent entries.now) bytes.items all.items) }
     ensures err { IfErr result (λ e. e ≢ Memory →

@@ -17,6 +17,9 @@ pub enum SectionFault {
     Memory,
 }
 
+/// Bytes with more behind them.
+pub(crate) type Grown = Result<Vec<u8>, SectionFault>;
+
 impl From<Refusal> for SectionFault {
     ghost from_gives = { λ _ e. e ≡ NoSection };
 
