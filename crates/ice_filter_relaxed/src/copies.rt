@@ -61,10 +61,9 @@ fn copied_question(alloc: Global, question: &Question) -> Result<Question, Alloc
 fn copied_column(alloc: Global, column: &Column) -> Result<Column, AllocError>
     ensures { IfOk result (λ copied. copied ≡ column.now) }
 {
-    let more = column.more.copy(alloc)?;
     Ok(Column {
         first: column.first.copy(alloc)?,
-        more,
+        more: column.more.copy(alloc)?,
     })
 }
 
@@ -72,9 +71,8 @@ fn copied_column(alloc: Global, column: &Column) -> Result<Column, AllocError>
 pub fn copied_predicate(alloc: Global, predicate: &Predicate) -> Result<Predicate, AllocError>
     ensures { IfOk result (λ copied. copied ≡ predicate.now) }
 {
-    let column = copied_column(alloc, &predicate.column)?;
     Ok(Predicate {
-        column,
+        column: copied_column(alloc, &predicate.column)?,
         question: copied_question(alloc, &predicate.question)?,
     })
 }
