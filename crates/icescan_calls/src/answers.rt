@@ -15,7 +15,7 @@ use contract_words::Items;
 use ice_filter::Filter;
 use ice_manifest_reading::Live;
 use ice_meta::Schema;
-use ice_state::{PlanFile, PlanFiles};
+use ice_state::{Line, PlanFile};
 use icescan_changes::FileChange;
 use icescan_explain::{Fate, FilterTests, SpecTests};
 use icescan_files::{Below, Folders, Store};
@@ -77,15 +77,15 @@ pub fn is_unchanged(before: &PlanFile<'_>, after: &PlanFile<'_>) -> bool
     icescan_changes::is_same_file(before, after)
 }
 
-/// What became of the delete files of a data file.
-pub fn delete_changes<'a>(
+/// What became of the equality delete files of a data file.
+pub fn equality_changes<'a>(
     alloc: Global,
-    earlier: &PlanFiles<'a>,
-    later: &PlanFiles<'a>,
+    before: Line<'a>,
+    after: Line<'a>,
 ) -> Result<Items<FileChange<'a>>, AllocError>
-    ensures { IfOk result (λ changes. changes ≡ file_changes earlier.now later.now) }
+    ensures { IfOk result (λ changes. changes ≡ file_changes before.entry.equalities after.entry.equalities) }
 {
-    icescan_changes::file_changes(alloc, earlier, later)
+    icescan_changes::file_changes(alloc, &before.equalities(), &after.equalities())
 }
 
 /// The expression of a filter, as a plan's JSON has it.

@@ -1,6 +1,6 @@
 //! Calls about audits.
 
-ghost use Rattle.std.specs.Prelude.{◌≡◌, IfOk, List, Ok, ℕ};
+ghost use Rattle.std.specs.Prelude.{◌≡◌, ◌∷◌, [], IfOk, List, Ok, ℕ};
 ghost use Rattle.icescan_audit_findings.specs.Repeats.{live_files};
 ghost use Rattle.ice_manifest_reading.specs.Manifests.{live_of};
 ghost use Rattle.ice_manifest_reading.specs.declared.entry.Live.{Live};
@@ -97,31 +97,30 @@ pub fn delete_findings(alloc: Global, files: &[LiveFile]) -> Result<Items<Findin
     Ok(findings)
 }
 
-/// Those of the totals of a snapshot's summary that its live files do not come to.
-pub fn false_totals(
+/// A total of a snapshot's summary, where its live files do not come to it.
+pub fn false_total(
     alloc: Global,
-    said: &[SaidTotal],
+    said: SaidTotal,
     files: &[LiveFile],
 ) -> Result<Items<FalseTotal>, AllocError>
-    ensures { IfOk result (λ found. found ≡ false_totals files.now said.now) }
+    ensures { IfOk result (λ found. found ≡ false_totals files.now (said ∷ [])) }
 {
-    icescan_audit_findings::false_totals(alloc, said, files)
+    icescan_audit_findings::false_totals(alloc, &[said], files)
 }
 
-/// Audits a snapshot of the table whose metadata is in the file at a path.
-pub fn audit_file<R: Threads + Sync, F: Files + Sync, W: Sink>(
+/// Audits a snapshot of the table whose metadata is in the file at a path, by one worker.
+pub fn audit_by_one<R: Threads + Sync, F: Files + Sync, W: Sink>(
     rt: &R,
     alloc: Global,
     files: &F,
     path: &str,
     target: &Target,
-    workers: usize,
     output: &mut W,
 ) -> Result<usize, RunFault>
     ensures { (metadata : List ℕ) ×
         WritesAnAudit (F.gives files.now) metadata target.now result (W.taken output.old) (W.taken output.new) }
 {
-    icescan_audit::audit_file(rt, alloc, files, path, target, workers, output)
+    icescan_audit::audit_file(rt, alloc, files, path, target, 1, output)
 }
 
 /// The text of the audits of all snapshots.

@@ -6,9 +6,9 @@ mod answers;
 mod audits;
 mod texts;
 
-pub use answers::{commit_below, delete_changes, file_fate, is_unchanged, show_below};
+pub use answers::{commit_below, equality_changes, file_fate, is_unchanged, show_below};
 pub use audits::{
-    audit_file, audits_text, delete_findings, false_totals, live_files, manifest_findings,
+    audit_by_one, audits_text, delete_findings, false_total, live_files, manifest_findings,
     row_findings,
 };
 pub use texts::{send_plan, write_all};
