@@ -10,14 +10,14 @@ returns c =
     let told = c.what_one_plan_has_is_told.ensures in
     let rising = c.answers_are_by_path.ensures in
     record {
-      added = λ world metadata before after selection rows earlier later row l file asked was is d e content honest
+      added = λ world metadata before after earlier later was is selection rows row l file asked d e content honest
           covers lacks none.
           law world metadata after selection rows later row l file asked is d e content honest covers
           (λ has. told.added earlier later has.0 (rising world metadata before earlier was)
           (rising world metadata after later is) has.1
           (subst (λ (x : Entry). line_of earlier x.file.path ≡ None) (sym has.2) lacks)
           (subst (λ (x : Entry). changes_of (line_changes earlier later) x.file.path ≡ []) (sym has.2) none));
-      removed = λ world metadata before after selection rows earlier later row l file asked was is d e content honest
+      removed = λ world metadata before after earlier later was is selection rows row l file asked d e content honest
           covers lacks none.
           law world metadata before selection rows earlier row l file asked was d e content honest covers
           (λ has. told.removed earlier later has.0 (rising world metadata before earlier was)
