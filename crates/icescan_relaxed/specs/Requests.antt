@@ -1,6 +1,7 @@
 -- Requests whose filters are relaxed.
-use Rattle.std.specs.Prelude.{◌≡◌, ℕ, List, [], Option, Some, None, Result, Ok}
+use Rattle.std.specs.Prelude.{◌≡◌, ℕ, List, [], ◌∷◌, Option, Some, None, Result, Ok, IfErr, IfOk}
 use Rattle.contract_words.specs.Outcome.{◌>>=◌}
+use Rattle.ice_desk.specs.Worlds.{EndsAt}
 use Rattle.ice_filter.specs.Parsing.{parsed}
 use Rattle.ice_filter.specs.Texts.{shown}
 use Rattle.ice_filter.specs.Trees.{tree_of}
@@ -12,7 +13,7 @@ use Rattle.ice_meta.specs.declared.metadata.Target.{Target}
 use Rattle.ice_meta.specs.declared.schema.Schema.{Schema}
 use Rattle.ice_state.specs.Contents.{World}
 use Rattle.icescan_text.specs.Faults.{of_filter, of_meta}
-use Rattle.icescan_text.specs.Reads.{as_run, file_in, schema_of}
+use Rattle.icescan_text.specs.Reads.{MayEnd, as_run, file_in, schema_of}
 use Rattle.icescan_text.specs.declared.fault.RunFault.{RunFault}
 use Rattle.icescan_text.specs.declared.fault.RunFault.TheVariants as run
 use Rattle.icescan_text.specs.declared.request.Request.{Request}
@@ -52,3 +53,10 @@ IsOfFilter _ = ⊥
 -- the same of the table whose metadata is in the file at a path
 unfoldable pub relaxed_request_at : World → List ℕ → Request → Result RelaxedRequest RunFault
 relaxed_request_at world path request = file_in world path >>= λ metadata. relaxed_request metadata request
+
+-- What relaxing gives where the world is told: that request, or its refusal; or another fault, where memory ran out or
+-- the read failed that may.
+abbrev pub Relaxes : Option World → (List ℕ → Type 0) → List ℕ → Request → Result RelaxedRequest RunFault → Type 0
+Relaxes told may_fail path request result = (world : World) → told ≡ Some world →
+    IfOk result (λ made. relaxed_request_at world path request ≡ Ok made)
+    × IfErr result (MayEnd (relaxed_request_at world path request) (EndsAt world may_fail (path ∷ [])) ⊥)

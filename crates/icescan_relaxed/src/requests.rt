@@ -1,16 +1,15 @@
 //! Requests whose filters are relaxed.
 
-ghost use Rattle.std.specs.Prelude.{◌≡◌, ◌∷◌, [], ℕ, List, Some, None, Ok, IfOk, IfErr, IsErrOf};
+ghost use Rattle.std.specs.Prelude.{◌≡◌, ℕ, List, Some, None, Ok, IfOk, IfErr, IsErrOf};
 ghost use Rattle.contract_words.specs.Outcome.{Gives};
-ghost use Rattle.ice_desk.specs.Worlds.{EndsAt, HasAt};
+ghost use Rattle.ice_desk.specs.Worlds.{HasAt};
 ghost use Rattle.ice_filter.specs.Texts.{shown};
 ghost use Rattle.ice_filter.specs.Trees.{tree_of};
 ghost use Rattle.ice_meta.specs.Targets.{described, metadata_of};
-ghost use Rattle.ice_state.specs.Contents.{World};
-ghost use Rattle.icescan_relaxed.specs.Requests.{IsOfFilter};
-ghost use Rattle.icescan_relaxed.specs.Requests.{relaxed_filter, relaxed_request, relaxed_request_at, relaxed_text};
+ghost use Rattle.icescan_relaxed.specs.Requests.{IsOfFilter, Relaxes};
+ghost use Rattle.icescan_relaxed.specs.Requests.{relaxed_filter, relaxed_request, relaxed_text};
 ghost use Rattle.icescan_text.specs.Faults.{of_meta};
-ghost use Rattle.icescan_text.specs.Reads.{MayEnd, as_run};
+ghost use Rattle.icescan_text.specs.Reads.{as_run};
 
 use contract_words::{Items, Text};
 use ice_desk::Files;
@@ -148,14 +147,8 @@ pub fn relax_request_at<F: Files>(
     path: &str,
     request: &Request,
 ) -> Result<RelaxedRequest, RunFault>
-    // Over files that tell their world.
-    ensures found { (world : World) → F.world files.now ≡ Some world →
-        IfOk result (λ made. relaxed_request_at world path.now request.now ≡ Ok made) }
-    ensures refused { (world : World) → F.world files.now ≡ Some world →
-        IfErr result (MayEnd (relaxed_request_at world path.now request.now)
-        (EndsAt world (F.may_fail files.now) (path.now ∷ [])) ⊥) }
-
-    // Over all files.
+    ensures answer { Relaxes (F.world files.now) (F.may_fail files.now) path.now request.now result }
+    // Over all files, also those that tell no world.
     ensures absent { (path : List ℕ) → IsErrOf result (RunFault.Absent path) → HasAt (F.world files.now) path None }
     ensures device { (path : List ℕ) → IsErrOf result (RunFault.Device path) → F.may_fail files.now path }
     // A read gave the metadata by which it is relaxed.
