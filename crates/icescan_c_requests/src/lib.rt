@@ -7,7 +7,6 @@ mod endings;
 mod hints;
 mod lines;
 mod reason;
-mod residual;
 mod texts;
 
 pub use asking::{request_by_id, request_by_name};

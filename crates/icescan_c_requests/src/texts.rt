@@ -6,13 +6,12 @@ ghost use Rattle.icescan_c_requests.specs.Texts.{IsJsonOfAsked, as_memory};
 ghost use Rattle.icescan_columns.specs.Columns.{columns_of};
 ghost use Rattle.icescan_forms.specs.declared.format.Format.TheVariants as format;
 
-use crate::residual::residual_of;
 use contract_words::Items;
 use ice_meta::Target;
 use ice_state::OwnedPlan;
 use icescan_columns::run_columns;
 use icescan_forms::Format;
-use icescan_json::{SpecTypes, write_typed_plan};
+use icescan_json::{SpecTypes, planned_expression, write_typed_plan};
 use icescan_text::{Request, RunFault};
 use std::alloc::{AllocError, Global};
 
@@ -50,7 +49,7 @@ pub fn plan_json(
 ) -> Result<Items<u8>, AllocError>
     ensures { IfOk result (IsJsonOfAsked metadata.now request.now types.now plan.now) }
 {
-    let residual = residual_of(alloc, metadata, request)?;
+    let residual = planned_expression(alloc, metadata, request)?;
     let mut text = Vec::new(alloc);
     match write_typed_plan(alloc, types, &residual, &plan.lines(), &mut text) {
         Ok(()) => Ok(Items::from_vec(text)),

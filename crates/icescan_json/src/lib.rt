@@ -25,6 +25,7 @@ pub use finished::finish_file_json;
 pub use laws::{json_is_the_plan, json_reads_back, json_tells_all};
 pub use list_plans::run_list_plan_json;
 pub use plan::{write_plan_json, write_typed_plan};
+pub use residuals::planned_expression;
 pub use table_plans::plan_file_json;
 pub use typed::TypedPlan;
 pub use types::{SpecTypes, types_of, types_of_specs};

@@ -52,7 +52,7 @@ fn asked_expression(
     }
 }
 
-/// The same, once a plan was made of these bytes and the request: then memory alone can be short.
+/// The same, of bytes and a request that a plan was made of: there memory alone can be short.
 pub fn planned_expression(
     alloc: Global,
     metadata: &[u8],
