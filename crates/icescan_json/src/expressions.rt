@@ -8,7 +8,7 @@ ghost use Rattle.ice_filter.specs.Trees.{tree_of};
 ghost use Rattle.icescan_json.specs.Expressions.{every_row_text, expression_json, full_name, predicate_json};
 ghost use Rattle.icescan_json.specs.Expressions.{type_named};
 ghost use Rattle.icescan_json.specs.ExpressionTexts.{asked_name, choices_text, joined_text, put, question_front};
-ghost use Rattle.icescan_json.specs.ExpressionTexts.{question_text, rest, top, value_text, values_text};
+ghost use Rattle.icescan_json.specs.ExpressionTexts.{question_text, rest, top, value_text};
 
 use crate::literals::push_literal;
 use contract_words::{Items, Text};
@@ -117,19 +117,6 @@ fn push_choices(
     Ok(())
 }
 
-/// Puts the literals last among which a column's value is to be, and the end.
-fn push_values(
-    text: &mut ObjectLines,
-    column_type: Option<ColumnType>,
-    choices: &Choices,
-) -> Result<(), AllocError>
-    ensures { OnOk result (text.new ≡ text.old ++ values_text column_type choices.now) }
-{
-    text.put(b",\"values\":[")?;
-    push_choices(text, column_type, choices)?;
-    text.put(b"]}")
-}
-
 /// Puts last what is asked of the column of a name and a type.
 fn push_question(
     text: &mut ObjectLines,
@@ -142,7 +129,11 @@ fn push_question(
     push_asked(text, asked_name(question), name)?;
     match question {
         Question::Compare(_, literal) => push_value(text, column_type, literal),
-        Question::Among(_, choices) => push_values(text, column_type, choices),
+        Question::Among(_, choices) => {
+            text.put(b",\"values\":[")?;
+            push_choices(text, column_type, choices)?;
+            text.put(b"]}")
+        }
         Question::Missing => text.put(b"}"),
         Question::Present => text.put(b"}"),
         Question::Begins(literal) => push_value(text, column_type, literal),
