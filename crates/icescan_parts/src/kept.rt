@@ -1,17 +1,16 @@
-//! The lines of the files that a table reaches without some of its snapshots, and of those that these alone reach.
+//! The lines of the files that a table reaches without some of its snapshots.
 
 ghost use Rattle.std.specs.Prelude.{◌≡◌, IfOk, IsErrOf};
 ghost use Rattle.ice_meta.specs.Targets.{described};
-ghost use Rattle.icescan_parts.specs.Kept.{AreLinesKept, AreLinesLetGo};
+ghost use Rattle.icescan_parts.specs.Kept.{AreLinesKept};
 ghost use Rattle.icescan_text.specs.declared.fault.RunFault.{RunFault};
 
-use crate::apart::alone;
 use crate::named::own_kept;
 use crate::snapshots::kept_snapshots;
 use contract_words::Items;
 use ice_desk::Files;
 use ice_meta::Metadata;
-use icescan_reachable::{gather_rows, lines_of, put_in_order, put_lists, put_manifests};
+use icescan_reachable::{gather_rows, put_in_order, put_lists, put_manifests};
 use icescan_text::RunFault;
 use std::alloc::Global;
 
@@ -34,23 +33,5 @@ pub fn lines_kept<F: Files>(
     let rows = gather_rows(alloc, files, &snapshots)?;
     put_manifests(alloc, files, &rows, &mut lines)?;
     put_in_order(&mut lines)?;
-    Ok(lines)
-}
-
-/// The lines of the files that of this metadata, which is at a path, the snapshots that go alone reach.
-pub fn lines_let_go<F: Files>(
-    alloc: Global,
-    files: &F,
-    gone: &[i64],
-    path: &str,
-    metadata: &Metadata,
-) -> Result<Vec<Items<u8>>, RunFault>
-    ensures write { IsErrOf result RunFault.Write → ⊥ }
-    ensures given { IfOk result (λ lines. AreLinesLetGo (F.gives files.now) gone.now path.now
-        (described metadata.now.json metadata.now.table) lines.items) }
-{
-    let all = lines_of(alloc, files, path, metadata)?;
-    let rest = lines_kept(alloc, files, gone, path, metadata)?;
-    let lines = alone(alloc, &all, &rest)?;
     Ok(lines)
 }

@@ -4,8 +4,9 @@ ghost use Rattle.std.specs.Prelude.{◌≡◌, ◌≢◌, IfErr, IfOk, IsErrOf, 
 ghost use Rattle.icescan_parts.specs.Kept.{ArePartLines, WrotePart, part_by};
 ghost use Rattle.icescan_text.specs.declared.fault.RunFault.{RunFault};
 
+use crate::apart::alone;
 use crate::ids::ids_in;
-use crate::kept::{lines_kept, lines_let_go};
+use crate::kept::lines_kept;
 use crate::snapshots::find_all;
 use crate::told::lines_in;
 use contract_words::Items;
@@ -13,7 +14,7 @@ use ice_desk::Files;
 use ice_meta::Metadata;
 use icescan_forms::{Format, Part};
 use icescan_print::{Sink, write_all};
-use icescan_reachable::lines_at;
+use icescan_reachable::{lines_at, lines_of};
 use icescan_text::{RunFault, read_file};
 use std::alloc::Global;
 
@@ -36,7 +37,9 @@ fn lines_by<F: Files>(
     let metadata = Metadata::read(alloc, &bytes)?;
     find_all(&metadata, gone)?;
     if is_alone {
-        lines_let_go(alloc, files, gone, path, &metadata)
+        let all = lines_of(alloc, files, path, &metadata)?;
+        let rest = lines_kept(alloc, files, gone, path, &metadata)?;
+        Ok(alone(alloc, &all, &rest)?)
     } else {
         lines_kept(alloc, files, gone, path, &metadata)
     }

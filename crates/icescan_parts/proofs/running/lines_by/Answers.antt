@@ -6,9 +6,9 @@ use Rattle.icescan_parts.proofs.running.lines_by.Goals as goal
 pub returns-then-is_alone-clause-given : goal.returns-then-is_alone-clause-given
 returns-then-is_alone-clause-given g c =
     let says = rw c.deref.ensures.value at c.in_ok-metadata.ensures.read in
-    let given = rw c.as_slice-gone.ensures.value at c.lines_let_go.ensures.given in
-    rw c.if-is_alone.true
-    (IfOk-weaker c.lines_let_go.result _ _ (λ lines are. (
+    let stay = rw c.as_slice-gone.ensures.value at c.in_ok-rest.ensures.given in
+    let are = rw (c.deref-2.ensures.value, c.deref-3.ensures.value) at c.in_ok-alone.ensures in
+    rw c.if-is_alone.true (
       c.in_ok-ids.ids.items,
       c.in_ok-ids.ensures.listed,
       record {
@@ -16,9 +16,15 @@ returns-then-is_alone-clause-given g c =
         metadata = described c.in_ok-metadata.metadata.json c.in_ok-metadata.metadata.table;
         given = c.in_ok-bytes.ensures.given;
         says = says;
-        are = are;
+        are = record {
+          all = c.in_ok-all.all.items;
+          rest = c.in_ok-rest.rest.items;
+          reached = c.in_ok-all.ensures.given;
+          stay = stay;
+          are = are;
+        };
       },
-    )) given)
+    )
 
 pub returns-clause-given : goal.returns-clause-given
 returns-clause-given g c =
