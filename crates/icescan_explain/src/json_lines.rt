@@ -13,7 +13,7 @@ ghost use Rattle.ice_state.specs.Lines.{OwnedLine};
 use crate::applied::Applied;
 use crate::counts::{Counts, counts_of};
 use crate::manifests::Explanation;
-use crate::verdict::{Fate, Subject, Verdict, subject_name};
+use crate::verdict::{Fate, Subject, Verdict};
 use contract_words::Text;
 use icescan_forms::{Value, put_object};
 use icescan_print::{Page, Sink, SinkFault};
@@ -73,7 +73,7 @@ fn put_verdict<S: Sink>(
         Sent S.taken S.may_fail sink.old page.old result sink.new page.new (verdict_object plan verdict.now) }
 {
     let members = [
-        ("kind", Value::Text(subject_name(verdict.subject))),
+        ("kind", Value::Text(verdict.subject.name())),
         ("path", Value::Text(verdict.path.as_slice())),
         ("kept", Value::Truth(verdict.fate.is_kept())),
         ("by", by_value(&verdict.fate)),
@@ -112,7 +112,7 @@ fn put_counts<S: Sink>(
 {
     let members = [
         ("kind", Value::Text(b"totals")),
-        ("of", Value::Text(subject_name(subject))),
+        ("of", Value::Text(subject.name())),
         ("all", Value::Count(counts.all())),
         ("kept", Value::Count(counts.kept as u128)),
         ("partition", Value::Count(counts.by_partition as u128)),

@@ -14,7 +14,7 @@ ghost use Rattle.ice_state.specs.Lines.{OwnedLine};
 use crate::applied::Applied;
 use crate::counts::{Counts, counts_of};
 use crate::manifests::Explanation;
-use crate::verdict::{Fate, Subject, Verdict, subject_name};
+use crate::verdict::{Fate, Subject, Verdict};
 use contract_words::Text;
 use icescan_forms::push_number;
 use icescan_print::{Page, Sink, SinkFault};
@@ -94,7 +94,7 @@ fn put_verdict<S: Sink>(
     ensures { (plan : List OwnedLine) → CountsOf applied.now plan →
         Sent S.taken S.may_fail sink.old page.old result sink.new page.new (verdict_text plan verdict.now) }
 {
-    page.put(sink, subject_name(verdict.subject))?;
+    page.put(sink, verdict.subject.name())?;
     page.put_named_path(sink, b" ", verdict.path.as_slice())?;
     put_fate(page, sink, applied, verdict)?;
     page.put(sink, b"\n")

@@ -3,7 +3,7 @@
 ghost use Rattle.std.specs.Prelude.{◌≡◌, ◌⊎◌, ◌<◌, ℕ, List, Some, None, Ok, IfErr, IfOk, IsErrOf, OnOk};
 ghost use Rattle.ice_desk.specs.Worlds.{EndsAt, HasAt};
 ghost use Rattle.icescan_explain.specs.AnyFiles.{IsAnExplanation};
-ghost use Rattle.icescan_explain.specs.Explanations.{explained, explained_at};
+ghost use Rattle.icescan_explain.specs.Explanations.{Explains, explained, explained_at};
 ghost use Rattle.icescan_explain.specs.JsonLines.{WritesAnExplanation, WroteAnExplanationAs, WroteExplanationAs};
 ghost use Rattle.icescan_explain.specs.JsonLines.{WroteExplanationFrontAs, explanation_told};
 ghost use Rattle.icescan_requests.specs.Plans.{OnRefusal, reads, reads_at};
@@ -30,11 +30,7 @@ fn explain_table<F: Files>(
     metadata: &[u8],
     request: &Request,
 ) -> Result<Explanation, RunFault>
-    ensures found { (world : World) → F.world files.now ≡ Some world →
-        IfOk result (λ x. explained world metadata.now request.now ≡ Ok x) }
-    ensures refused { (world : World) → F.world files.now ≡ Some world →
-        IfErr result (MayEnd (explained world metadata.now request.now)
-        (EndsAt world (F.may_fail files.now) (reads world metadata.now request.now)) ⊥) }
+    ensures answer { Explains (F.world files.now) (F.may_fail files.now) metadata.now request.now result }
     ensures read { IfOk result (IsAnExplanation (F.gives files.now) metadata.now request.now) }
     ensures absent { (path : List ℕ) → IsErrOf result (RunFault.Absent path) → HasAt (F.world files.now) path None }
     ensures device { (path : List ℕ) → IsErrOf result (RunFault.Device path) → F.may_fail files.now path }

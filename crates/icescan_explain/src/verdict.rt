@@ -29,16 +29,16 @@ impl Subject {
             FileContent::PositionDeletes | FileContent::EqualityDeletes => Subject::Deletes,
         }
     }
-}
 
-/// The word for a subject in an explanation.
-pub fn subject_name(subject: Subject) -> &'static [u8]
-    ensures { result.now ≡ subject_name subject }
-{
-    match subject {
-        Subject::Manifest => b"manifest",
-        Subject::Data => b"data",
-        Subject::Deletes => b"delete",
+    /// The word for it in an explanation.
+    pub fn name(self) -> &'static [u8]
+        ensures { result.now ≡ subject_name self }
+    {
+        match self {
+            Subject::Manifest => b"manifest",
+            Subject::Data => b"data",
+            Subject::Deletes => b"delete",
+        }
     }
 }
 

@@ -8,7 +8,7 @@ returns g c = λ plan counts.
     let path : c.as_slice.result.now ≡ c.args.verdict.now.path = cc in
     rw (
       sym (c.applies_value.ensures plan counts),
-      sym c.subject_name.ensures,
+      sym c.name.ensures,
       sym c.is_kept.ensures,
       sym c.by_value.ensures,
       sym c.name_value.ensures,

@@ -14,32 +14,31 @@ use Rattle.icescan_explain.proofs.running.explain_table.Goals as goal
 pub explain_rows-requires : goal.explain_rows-requires
 explain_rows-requires g c = (c.deref.result.now, rw c.as_slice-specs.ensures at c.in_ok-tests.ensures)
 
-pub returns-in_err-selected-clause-refused : goal.returns-in_err-selected-clause-refused
-returns-in_err-selected-clause-refused g c =
+pub returns-in_err-selected-clause-answer : goal.returns-in_err-selected-clause-answer
+returns-in_err-selected-clause-answer g c =
     let p = err_from_is_err_and c.from_residual.result c.from_residual.ensures.1 in
-    λ world told. rw (p.1, p.2)
-    (no_rows_found (g.F.Files.may_fail c.args.files.now) world c.args.metadata.now c.args.request.now
-    c.in_err-selected.field-0.0 (c.in_err-selected.ensures.refused world told))
+    λ world told. rw (p.1, p.2) (
+      tt,
+      no_rows_found (g.F.Files.may_fail c.args.files.now) world c.args.metadata.now c.args.request.now
+          c.in_err-selected.field-0.0 (c.in_err-selected.ensures.refused world told),
+    )
 
-pub returns-clause-found : goal.returns-clause-found
-returns-clause-found g c =
+pub returns-clause-answer : goal.returns-clause-answer
+returns-clause-answer g c =
     let found = c.in_ok-selected.selected in
     let tests : c.in_ok-tests.tests
     ≡ ice_filter_tests found.specs found.filter.parts (columns_in c.args.request.now.filter) = search rules in
     λ world told.
     let there = explained_there (g.F.Files.may_fail c.args.files.now) world c.args.metadata.now c.args.request.now found
-    (c.in_ok-selected.ensures.found world told) in
-    both_ok c.explain_rows.result _ _ _
-    (λ x planned verdicts. there x.plan planned
-    ∙ ap Ok (ap (λ vs. record { plan = x.plan; verdicts = vs }) (sym verdicts)))
-    (c.explain_rows.ensures.planned world told) (rw tests at (c.explain_rows.ensures.told world told))
-
-pub returns-clause-refused : goal.returns-clause-refused
-returns-clause-refused g c =
-    λ world told.
-    IfErr-weaker c.explain_rows.result _ _
-    (no_plan (g.F.Files.may_fail c.args.files.now) world c.args.metadata.now c.args.request.now
-    c.in_ok-selected.selected (c.in_ok-selected.ensures.found world told)) (c.explain_rows.ensures.refused world told)
+    (c.in_ok-selected.ensures.found world told) in (
+      both_ok c.explain_rows.result _ _ _
+          (λ x planned verdicts. there x.plan planned
+          ∙ ap Ok (ap (λ vs. record { plan = x.plan; verdicts = vs }) (sym verdicts)))
+          (c.explain_rows.ensures.planned world told) (rw tests at (c.explain_rows.ensures.told world told)),
+      IfErr-weaker c.explain_rows.result _ _
+          (no_plan (g.F.Files.may_fail c.args.files.now) world c.args.metadata.now c.args.request.now found
+          (c.in_ok-selected.ensures.found world told)) (c.explain_rows.ensures.refused world told),
+    )
 
 pub returns-clause-read : goal.returns-clause-read
 returns-clause-read g c =

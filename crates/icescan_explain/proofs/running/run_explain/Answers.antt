@@ -16,7 +16,7 @@ returns-in_err-explanation-clause-refused g c =
     (may_write (EndsAt world (g.F.Files.may_fail c.args.files.now)
     (reads world c.args.metadata.now c.args.request.now)) (g.W.Sink.may_fail c.args.output.now)
     (explained world c.args.metadata.now c.args.request.now) c.in_err-explanation.field-0.0
-    (c.in_err-explanation.ensures.refused world told))
+    (c.in_err-explanation.ensures.answer world told).1)
 
 pub returns-in_err-explanation-clause-front : goal.returns-in_err-explanation-clause-front
 returns-in_err-explanation-clause-front g c =
@@ -42,14 +42,14 @@ returns-in_err-write_explanation-clause-front g c =
     c.from_residual-in_err-write_explanation.ensures.1 in
     λ world told. rw (p.1, p.2) (λ is. (
       c.in_ok-explanation.explanation,
-      c.in_ok-explanation.ensures.found world told,
+      (c.in_ok-explanation.ensures.answer world told).0,
       c.in_err-write_explanation.ensures.front is,
     ))
 
 pub returns-clause-written : goal.returns-clause-written
 returns-clause-written g c = λ world told. (
   c.in_ok-explanation.explanation,
-  c.in_ok-explanation.ensures.found world told,
+  (c.in_ok-explanation.ensures.answer world told).0,
   c.in_ok-write_explanation.ensures.all,
 )
 
