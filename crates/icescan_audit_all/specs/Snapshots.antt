@@ -1,5 +1,5 @@
 -- What is read for the audits of all snapshots of a table, over any files.
-use Rattle.std.specs.Prelude.{◌≡◌, ◌⊎◌, ℕ, ℤ, Bool, List, [], ◌∷◌, ◌++◌, Option, Some, None, Ok, map, nat_lt}
+use Rattle.std.specs.Prelude.{◌≡◌, ◌⊎◌, ℕ, ℤ, Bool, List, [], ◌∷◌, ◌++◌, Some, Ok, map, nat_lt}
 use Rattle.std.specs.List.{All, Contains}
 use Rattle.ice_desk.specs.Given.{Giving}
 use Rattle.ice_manifest_reading.specs.declared.row.Row.{Row}
@@ -71,6 +71,11 @@ abbrev pub IsFound : Giving → Described → SnapshotAudit → Type 0
 IsFound gives d a = IsAuditOf gives d a.snapshot a.audit × ((subject : Subject)
     × (subject_in d.json d.table (target.Snapshot a.snapshot) ≡ Ok subject) × AreRowsGiven gives subject.list a.rows)
 
+-- of what was found of all snapshots, in the order of the metadata
+pub record AreAllFound (gives : Giving) (d : Described) (audits : List SnapshotAudit) : Type 0 where
+  pub each : All (IsFound gives d) audits
+  pub all : map (λ (a : SnapshotAudit). a.snapshot) audits ≡ ids_of d.table
+
 abbrev pub IsListed : Giving → Described → Listed → Type 0
 IsListed gives d l = AreRowsOf gives d (target.Snapshot l.snapshot) l.rows l.has_deletes
 
@@ -109,11 +114,6 @@ pub record IsKnown (gives : Giving) (known : Known) (basis : Basis) : Type 0 whe
   pub kept : All (IsKept gives d) known.kept.now
   pub named : schema_with known.schema d.table ≡ Some schema
   pub is : basis ≡ basis_under schema d.table basis.has_deletes basis.snapshot
-
--- the bytes of the row before, where there is one
-abbrev pub IsHeld : Giving → Option Row → List ℕ → Type 0
-IsHeld gives None bytes = Unit {0}
-IsHeld gives (Some row) bytes = gives row.path (Some bytes)
 
 -- this was read of a row's manifest, which has these bytes, for the snapshots of a class
 pub record IsReadFor (class : Class) (row : Row) (bytes : List ℕ) (k : Kept) : Type 0 where

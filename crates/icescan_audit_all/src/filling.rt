@@ -4,7 +4,8 @@ ghost use Rattle.std.specs.Prelude.{Some, IfErr, IfOk, OnOk, option_map};
 ghost use Rattle.std.specs.List.{All};
 ghost use Rattle.ice_meta.specs.Targets.{Described};
 ghost use Rattle.icescan_audit.specs.AnyFiles.{MayStop};
-ghost use Rattle.icescan_audit_all.specs.Snapshots.{IsClass, IsHeld, IsKept, IsOfBytes, IsPutFor, IsReadFor};
+ghost use Rattle.icescan_audit_all.specs.Snapshots.{IsClass, IsKept, IsOfBytes, IsPutFor, IsReadFor};
+ghost use Rattle.icescan_reachable.specs.Given.{IsHeld};
 
 use crate::kept::{Kept, found};
 use crate::wanted::{Class, Want};
@@ -12,30 +13,10 @@ use contract_words::Items;
 use ice_desk::Files;
 use ice_manifest_reading::Row;
 use icescan_audit::{audit_bytes, spec_for};
-use icescan_text::{RunFault, read_file_into};
+use icescan_reachable::read_manifest;
+use icescan_text::RunFault;
 use shared_value::Shared;
 use std::alloc::Global;
-
-/// Puts the bytes of a row's manifest in place of those that `bytes` has, unless these are its own: those of the manifest
-/// of the row before, where there is one.
-fn read_manifest<F: Files>(
-    alloc: Global,
-    files: &F,
-    before: Option<&Row>,
-    row: &Row,
-    bytes: &mut Vec<u8>,
-) -> Result<(), RunFault>
-    requires held { IsHeld (F.gives files.now) (option_map (λ r. r.now) before) bytes.now.items }
-    ensures given { OnOk result (F.gives files.now row.now.path (Some bytes.new.items)) }
-    ensures stops { IfErr result (MayStop (F.world files.now) (F.may_fail files.now) ⊥) }
-{
-    if let Some(before) = before {
-        if before.path.as_str() == row.path.as_str() {
-            return Ok(());
-        }
-    }
-    read_file_into(alloc, files, row.path.as_str(), bytes)
-}
 
 /// What is read of a row's manifest, which has these bytes, for the snapshots of a class.
 fn kept_of(

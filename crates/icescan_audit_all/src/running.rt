@@ -1,10 +1,10 @@
 //! Audits of all snapshots that are asked for, over any files.
 
-ghost use Rattle.std.specs.Prelude.{◌≡◌, ◌≢◌, ◌⊎◌, ◌<◌, List, ℕ, Some, Ok, IfOk, IfErr, IsErrOf, None, map};
+ghost use Rattle.std.specs.Prelude.{◌≡◌, ◌≢◌, ◌⊎◌, ◌<◌, List, ℕ, Some, Ok, IfOk, IfErr, IsErrOf, None};
 ghost use Rattle.std.specs.List.{All};
 ghost use Rattle.ice_meta.specs.Targets.{described};
 ghost use Rattle.icescan_audit.specs.AnyFiles.{MayStop};
-ghost use Rattle.icescan_audit_all.specs.Snapshots.{AreAudits, IsFound, IsKept, ids_of};
+ghost use Rattle.icescan_audit_all.specs.Snapshots.{AreAllFound, AreAudits, IsKept};
 ghost use Rattle.icescan_audit_all.specs.Texts.{WroteAuditsAt, all_text};
 ghost use Rattle.icescan_audit_all.specs.Lines.{number_of_faults, told_lines};
 
@@ -46,10 +46,8 @@ fn audits_in<F: Files>(
     files: &F,
     metadata: &Metadata,
 ) -> Result<Vec<SnapshotAudit>, RunFault>
-    ensures each { IfOk result (λ audits. All (IsFound (F.gives files.now)
-        (described metadata.now.json metadata.now.table)) audits.items) }
-    ensures all { IfOk result (λ audits. map (λ (a : SnapshotAudit). a.snapshot) audits.items
-        ≡ ids_of metadata.now.table) }
+    ensures found { IfOk result (λ audits. AreAllFound (F.gives files.now)
+        (described metadata.now.json metadata.now.table) audits.items) }
     ensures stops { IfErr result (MayStop (F.world files.now) (F.may_fail files.now) ⊥) }
 {
     let listed = list_snapshots(alloc, files, metadata)?;

@@ -12,7 +12,7 @@ mod running;
 pub use kind::{FileKind, put_line};
 pub use laws::lines_are_of_reached_files;
 pub use lists::{gather_rows, put_lists};
-pub use manifests::put_manifests;
+pub use manifests::{put_manifests, read_manifest};
 pub use named::{logged_in, path_in, unnamed};
 pub use order::{put_in_order, text_of};
 pub use running::{lines_at, lines_of, reachable_file};

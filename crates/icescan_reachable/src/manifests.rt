@@ -1,8 +1,9 @@
 //! The files of the live entries of manifests.
 
-ghost use Rattle.std.specs.Prelude.{◌≡◌, ◌≢◌, ◌++◌, ◌∷◌, [], true, List, Option, Some, Ok, IfErr, IfOk, IsErrOf, OnOk};
-ghost use Rattle.std.specs.Prelude.{Contains, option_map};
+ghost use Rattle.std.specs.Prelude.{◌≡◌, ◌≢◌, ◌++◌, ◌∷◌, [], true, ℕ, List, Option, None, Some, Ok, IfErr, IfOk};
+ghost use Rattle.std.specs.Prelude.{Contains, IsErrOf, OnOk, option_map};
 ghost use Rattle.contract_words.specs.Outcome.{Gives};
+ghost use Rattle.ice_desk.specs.Worlds.{HasAt};
 ghost use Rattle.ice_manifest_reading.specs.declared.row.Row.{Row};
 ghost use Rattle.ice_manifest_reading.specs.Manifests.{live_of};
 ghost use Rattle.ice_manifest_reading.specs.Telling.{told_of};
@@ -118,7 +119,7 @@ fn is_same_manifest(before: &Row, row: &Row) -> bool
 
 /// Puts the bytes of a row's manifest in place of those that `bytes` has, unless these are its own: those of the manifest
 /// of the row before, where there is one.
-fn read_manifest<F: Files>(
+pub fn read_manifest<F: Files>(
     alloc: Global,
     files: &F,
     before: Option<&Row>,
@@ -126,6 +127,8 @@ fn read_manifest<F: Files>(
     bytes: &mut Vec<u8>,
 ) -> Result<(), RunFault>
     requires held { IsHeld (F.gives files.now) (option_map (λ r. r.now) before) bytes.now.items }
+    ensures absent { (path : List ℕ) → IsErrOf result (RunFault.Absent path) → HasAt (F.world files.now) path None }
+    ensures device { (path : List ℕ) → IsErrOf result (RunFault.Device path) → F.may_fail files.now path }
     ensures write { IsErrOf result RunFault.Write → ⊥ }
     ensures given { OnOk result (F.gives files.now row.now.path (Some bytes.new.items)) }
     ensures unread { IfErr result (IsUnread (F.gives files.now) (F.may_fail files.now) row.now.path) }

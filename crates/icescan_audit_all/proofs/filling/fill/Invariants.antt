@@ -1,7 +1,8 @@
 use Rattle.std.specs.List.{All}
 use Rattle.std.specs.Prelude.{option_map}
 use Rattle.ice_meta.specs.Targets.{Described}
-use Rattle.icescan_audit_all.specs.Snapshots.{IsClass, IsHeld, IsKept}
+use Rattle.icescan_reachable.specs.Given.{IsHeld}
+use Rattle.icescan_audit_all.specs.Snapshots.{IsClass, IsKept}
 use Rattle.icescan_audit_all.proofs.filling.fill.Given as goal
 
 -- the bytes are those of the row before

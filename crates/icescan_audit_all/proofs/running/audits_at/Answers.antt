@@ -23,9 +23,10 @@ returns-clause-given g c =
     let gives = g.F.Files.gives c.args.files.now in
     let metadata = c.in_ok-metadata.metadata in
     let read = subst (λ (bytes : List ℕ). gives c.args.path.now (Some bytes)) (sym c.deref.ensures.value)
-    c.in_ok-bytes.ensures.given in (
+    c.in_ok-bytes.ensures.given in
+    let found = c.in_ok-audits.ensures.found in (
       c.deref.result.now,
       read,
       are_audits gives c.deref.result.now (described metadata.json metadata.table)
-          c.in_ok-audits.audits.items c.in_ok-metadata.ensures.read c.in_ok-audits.ensures.all c.in_ok-audits.ensures.each,
+          c.in_ok-audits.audits.items c.in_ok-metadata.ensures.read found.all found.each,
     )

@@ -18,10 +18,10 @@ returns-in_err-audits-clause-stops g c =
     let p = err_from_is_err_and c.from_residual-in_err-audits.result c.from_residual-in_err-audits.ensures.1 in
     rw (p.1, p.2) c.in_err-audits.ensures.stops
 
-pub returns-clause-each : goal.returns-clause-each
-returns-clause-each g c = c.in_ok-audits.ensures.read
-
-pub returns-clause-all : goal.returns-clause-all
-returns-clause-all g c =
+pub returns-clause-found : goal.returns-clause-found
+returns-clause-found g c =
     let same = ap (λ (ls : List Listed). map (λ (l : Listed). l.snapshot) ls) c.as_slice-lent.ensures.value in
-    c.in_ok-audits.ensures.each ∙ same ∙ c.in_ok-listed.ensures.each
+    record {
+      each = c.in_ok-audits.ensures.read;
+      all = c.in_ok-audits.ensures.each ∙ same ∙ c.in_ok-listed.ensures.each;
+    }
