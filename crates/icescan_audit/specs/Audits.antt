@@ -1,5 +1,6 @@
 -- Audits of a snapshot: every manifest is read, also those that no filter wants.
-use Rattle.std.specs.Prelude.{ℕ, ◌+◌, List, [], ◌∷◌, ◌++◌, length, Option, Some, None, Result, Ok, Err}
+use Rattle.std.specs.Prelude.{◌≡◌, ℕ, ◌+◌, List, [], ◌∷◌, ◌++◌, length, Option, Some, None, Result, Ok, Err}
+use Rattle.std.specs.Prelude.{IfErr, IfOk}
 use Rattle.contract_words.specs.Outcome.{◌>>=◌}
 use Rattle.icescan_audit_findings.specs.declared.basis.Basis.{Basis}
 use Rattle.icescan_audit_findings.specs.Bases.{among}
@@ -11,6 +12,7 @@ use Rattle.icescan_audit_findings.specs.Totals.{false_totals}
 use Rattle.icescan_audit_findings.specs.declared.finding.Finding.{Finding}
 use Rattle.icescan_audit_findings.specs.declared.totals.SaidTotal.{SaidTotal}
 use Rattle.ice_desk.specs.Wanted.{paths_of}
+use Rattle.ice_desk.specs.Worlds.{EndsAt}
 use Rattle.ice_manifest_fields.specs.declared.fault.ManifestFault.{ManifestFault}
 use Rattle.ice_manifest_fields.specs.declared.fault.ManifestFault.TheVariants as manifest
 use Rattle.ice_manifest_reading.specs.declared.entry.Live.{Live}
@@ -23,7 +25,7 @@ use Rattle.ice_state.specs.Contents.{World}
 use Rattle.ice_state.specs.Specs.{spec_of}
 use Rattle.ice_state.specs.declared.fault.FinishFault.TheVariants as finish
 use Rattle.ice_state.specs.declared.fault.ScanFault.TheVariants as scan
-use Rattle.icescan_text.specs.Reads.{as_run, file_in, rows_at}
+use Rattle.icescan_text.specs.Reads.{MayEnd, as_run, file_in, rows_at}
 use Rattle.icescan_text.specs.Workers.{by_workers}
 use Rattle.icescan_text.specs.declared.fault.RunFault.{RunFault}
 use Rattle.icescan_text.specs.declared.fault.RunFault.TheVariants as run
@@ -120,6 +122,14 @@ reads_of world (Err fault) = []
 
 unfoldable pub audit_reads : World → List ℕ → Target → List (List ℕ)
 audit_reads world metadata target = reads_of world (subject_of metadata target)
+
+-- What auditing gives where the world is told: the audit, or its refusal; or another fault, where memory ran out or one
+-- of the reads failed that may.
+abbrev pub Audits : Option World → (List ℕ → Type 0) → List ℕ → Target → Result Audit RunFault → Type 0
+Audits told may_fail metadata target result = (world : World) → told ≡ Some world →
+    IfOk result (λ audit. audit_of world metadata target ≡ Ok audit)
+    × IfErr result (MayEnd (audit_of world metadata target) (EndsAt world may_fail (audit_reads world metadata target))
+    ⊥)
 
 -- ---- the metadata in a file
 

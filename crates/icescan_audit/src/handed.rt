@@ -163,19 +163,9 @@ impl HandedAudit {
     pub fn take(self, alloc: Global, manifest: &[u8]) -> Result<HandedAudit, RunFault>
         ensures { Gives RunFault.Memory (λ audit. audit) result (took self manifest.now) }
     {
-        let HandedAudit {
-            basis,
-            said,
-            rows,
-            read,
-        } = self;
-        let read = read_on(alloc, &basis, rows.as_slice(), read, manifest)?;
-        Ok(HandedAudit {
-            basis,
-            said,
-            rows,
-            read,
-        })
+        let read = self.read;
+        let read = read_on(alloc, &self.basis, self.rows.as_slice(), read, manifest)?;
+        Ok(HandedAudit { read, ..self })
     }
 
     /// What was found, as lines of JSON. The refusal is `Finish` where a manifest was not handed in; or `Memory`.
@@ -184,14 +174,7 @@ impl HandedAudit {
         ensures { Gives RunFault.Memory (λ text. text) result (told_in self) }
     {
         all_handed(alloc, self.rows.as_slice(), self.read.manifests)?;
-        let HandedAudit {
-            basis,
-            said,
-            rows,
-            read,
-        } = self;
-        drop(basis);
-        drop(rows);
+        let HandedAudit { said, read, .. } = self;
         let audit = read.whole(alloc, said.as_slice())?;
         Ok(audit_json(alloc, &audit)?)
     }

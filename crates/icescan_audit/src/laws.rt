@@ -1,11 +1,11 @@
 //! What an audit tells of the summaries of a manifest list's rows.
 
-ghost use Rattle.std.specs.Prelude.{◌≡◌, ◌↔◌, ℕ, List, [], Ok, Some};
+ghost use Rattle.std.specs.Prelude.{◌≡◌, ◌↔◌, ℕ, List, [], Ok};
 ghost use Rattle.std.specs.List.{Contains};
 ghost use Rattle.icescan_audit.specs.Audits.{audit_of};
 ghost use Rattle.icescan_audit_findings.specs.Telling.{faults, uncovered};
 ghost use Rattle.icescan_audit.specs.Premises.{HasHonestFiles, HasTrueSummaries};
-ghost use Rattle.icescan_audit.specs.Strays.{DanglesUnder, NamesNoneUnder};
+ghost use Rattle.icescan_audit.specs.Strays.{DanglesUnder, NamesNoneUnder, TellsOfStrays};
 ghost use Rattle.icescan_audit.specs.Subjects.{subject_of};
 ghost use Rattle.icescan_audit.specs.Totals.{IsFalseUnder};
 ghost use Rattle.icescan_audit_findings.specs.declared.totals.FalseTotal.{FalseTotal};
@@ -53,23 +53,9 @@ pub fn audits_tell_of_totals()
 /// that manifest's row, applies to no live data file of the snapshot; and one that it names a file that is not live just
 /// where such a delete file names one, and no live data file of the snapshot has that path.
 pub fn audits_tell_of_deletes()
-    ensures positions { (world : World) (metadata : List ℕ) (target : Target) (audit : Audit) (subject : Subject)
-        (rows : List Row) (manifest path : List ℕ) → audit_of world metadata target ≡ Ok audit →
-        subject_of metadata target ≡ Ok subject → rows_at world subject.list ≡ Ok rows →
-        Contains audit.findings
-        (record { manifest = manifest; file = Some path; flaw = Flaw.DanglingPositions })
-        ↔ DanglesUnder PositionDeletes world subject.basis.specs rows manifest path }
-    ensures equalities { (world : World) (metadata : List ℕ) (target : Target) (audit : Audit) (subject : Subject)
-        (rows : List Row) (manifest path : List ℕ) → audit_of world metadata target ≡ Ok audit →
-        subject_of metadata target ≡ Ok subject → rows_at world subject.list ≡ Ok rows →
-        Contains audit.findings
-        (record { manifest = manifest; file = Some path; flaw = Flaw.DanglingEqualities })
-        ↔ DanglesUnder EqualityDeletes world subject.basis.specs rows manifest path }
-    ensures named { (world : World) (metadata : List ℕ) (target : Target) (audit : Audit) (subject : Subject)
-        (rows : List Row) (manifest path : List ℕ) → audit_of world metadata target ≡ Ok audit →
-        subject_of metadata target ≡ Ok subject → rows_at world subject.list ≡ Ok rows →
-        Contains audit.findings (record { manifest = manifest; file = Some path; flaw = Flaw.NamedNotLive })
-        ↔ NamesNoneUnder world subject.basis.specs rows manifest path }
+    ensures positions { TellsOfStrays Flaw.DanglingPositions (DanglesUnder PositionDeletes) }
+    ensures equalities { TellsOfStrays Flaw.DanglingEqualities (DanglesUnder EqualityDeletes) }
+    ensures named { TellsOfStrays Flaw.NamedNotLive NamesNoneUnder }
 {
     contents_fit();
 }

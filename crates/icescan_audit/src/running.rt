@@ -2,7 +2,7 @@
 
 ghost use Rattle.std.specs.Prelude.{◌≡◌, ◌≢◌, ◌⊎◌, ◌<◌, ℕ, List, Some, Ok, IfOk, IfErr, IsErrOf};
 ghost use Rattle.icescan_audit.specs.AnyFiles.{IsAnAudit, MayStop, WritesAnAudit, WroteAnAudit};
-ghost use Rattle.icescan_audit.specs.Audits.{audit_at, audit_of, audit_reads, audit_reads_at};
+ghost use Rattle.icescan_audit.specs.Audits.{Audits, audit_at, audit_of, audit_reads, audit_reads_at};
 ghost use Rattle.icescan_audit.specs.Premises.{HasTrueSummaries, HasTrueSummariesAt};
 ghost use Rattle.icescan_audit.specs.Texts.{WroteAudit, WroteAuditFront};
 ghost use Rattle.ice_desk.specs.Worlds.{EndsAt};
@@ -32,11 +32,7 @@ pub(crate) fn audit_table<R: Threads + Sync, F: Files + Sync>(
     target: &Target,
     workers: usize,
 ) -> Result<Audit, RunFault>
-    ensures found { (world : World) → F.world files.now ≡ Some world →
-        IfOk result (λ audit. audit_of world metadata.now target.now ≡ Ok audit) }
-    ensures refused { (world : World) → F.world files.now ≡ Some world →
-        IfErr result (MayEnd (audit_of world metadata.now target.now)
-        (EndsAt world (F.may_fail files.now) (audit_reads world metadata.now target.now)) ⊥) }
+    ensures answer { Audits (F.world files.now) (F.may_fail files.now) metadata.now target.now result }
     ensures write { IsErrOf result RunFault.Write → ⊥ }
     ensures read { IfOk result (IsAnAudit (F.gives files.now) metadata.now target.now) }
     ensures stops { IfErr result (MayStop (F.world files.now) (F.may_fail files.now) ⊥) }

@@ -17,7 +17,7 @@ returns-in_err-audit-clause-refused g c =
     (may_write (EndsAt world (g.F.Files.may_fail c.args.files.now)
     (audit_reads world c.args.metadata.now c.args.target.now)) (g.W.Sink.may_fail c.args.output.now)
     (audit_of world c.args.metadata.now c.args.target.now) c.in_err-audit.field-0.0
-    (c.in_err-audit.ensures.refused world told))
+    (c.in_err-audit.ensures.answer world told).1)
 
 pub returns-in_err-audit-clause-front : goal.returns-in_err-audit-clause-front
 returns-in_err-audit-clause-front g c =
@@ -35,7 +35,7 @@ returns-in_err-write_audit-clause-refused g c =
 pub returns-in_err-write_audit-clause-front : goal.returns-in_err-write_audit-clause-front
 returns-in_err-write_audit-clause-front g c =
     let front = c.in_err-write_audit.ensures.front in
-    λ world told is. (c.in_ok-audit.audit, c.in_ok-audit.ensures.found world told, front)
+    λ world told is. (c.in_ok-audit.audit, (c.in_ok-audit.ensures.answer world told).0, front)
 
 pub returns-clause-truth : goal.returns-clause-truth
 returns-clause-truth g c =
@@ -44,7 +44,7 @@ returns-clause-truth g c =
     ∙ ap (λ found. length (faults found)) c.as_slice.ensures in
     λ world told none.
     (c.audits_tell_of_summaries.ensures world c.args.metadata.now c.args.target.now audit
-    (c.in_ok-audit.ensures.found world told)).0 (none_at_zero audit.findings (sym count ∙ none))
+    (c.in_ok-audit.ensures.answer world told).0).0 (none_at_zero audit.findings (sym count ∙ none))
 
 pub returns-clause-written : goal.returns-clause-written
 returns-clause-written g c =
@@ -52,7 +52,7 @@ returns-clause-written g c =
     let count : c.count_faults.result ≡ length (faults audit.findings) = c.count_faults.ensures
     ∙ ap (λ found. length (faults found)) c.as_slice.ensures in
     let all = c.in_ok-write_audit.ensures.all in
-    λ world told. (audit, c.in_ok-audit.ensures.found world told, count, all)
+    λ world told. (audit, (c.in_ok-audit.ensures.answer world told).0, count, all)
 
 pub returns-in_err-audit-clause-text : goal.returns-in_err-audit-clause-text
 returns-in_err-audit-clause-text g c =

@@ -72,7 +72,7 @@ returns-clause-found g c =
     let has = c.in_ok-metadata.ensures.found world told ∙ ap Ok (sym c.deref.ensures.value) in
     let same = audit_behind f world c.args.path.now c.args.target.now c.args.workers given.1 given.2
     c.deref.result.now has in
-    IfOk-weaker c.audit_table.result _ _ (λ _ is. same ∙ is) (c.audit_table.ensures.found world told)
+    IfOk-weaker c.audit_table.result _ _ (λ _ is. same ∙ is) (c.audit_table.ensures.answer world told).0
 
 pub returns-clause-refused : goal.returns-clause-refused
 returns-clause-refused g c =
@@ -82,7 +82,7 @@ returns-clause-refused g c =
     let has = c.in_ok-metadata.ensures.found world told ∙ ap Ok (sym c.deref.ensures.value) in
     IfErr-weaker c.audit_table.result _ _
     (λ e h. ends_behind f world c.args.path.now c.args.target.now c.args.workers given.1 given.2 c.deref.result.now has
-    ⊥ e h) (c.audit_table.ensures.refused world told)
+    ⊥ e h) (c.audit_table.ensures.answer world told).1
 
 pub returns-clause-given : goal.returns-clause-given
 returns-clause-given g c =
