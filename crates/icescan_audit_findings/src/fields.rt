@@ -1,11 +1,11 @@
 //! What is wrong with a file's partition values beside what its manifest says of the columns that they come from.
 
-ghost use Rattle.std.specs.Prelude.{◌≡◌, ◌++◌, IfOk, OnOk, Some, map};
+ghost use Rattle.std.specs.Prelude.{◌≡◌, ◌++◌, IfOk, OnOk, map};
 ghost use Rattle.std.specs.Option.{option_copied};
 ghost use Rattle.ice_project.specs.Limits.{limit};
 ghost use Rattle.ice_transform.specs.Values.{is_rising, is_void};
 ghost use Rattle.icescan_audit_findings.specs.ColumnFlaws.{has_bound};
-ghost use Rattle.icescan_audit_findings.specs.FieldFlaws.{are_one, field_flaws, fields_flaws, flaws_as, has_nulls};
+ghost use Rattle.icescan_audit_findings.specs.FieldFlaws.{are_one, field_flaws, fields_flaws, has_nulls};
 ghost use Rattle.icescan_audit_findings.specs.FieldFlaws.{has_other_nulls, has_values, is_no_bucket, is_outside};
 ghost use Rattle.icescan_audit_findings.specs.FieldFlaws.{is_outside_bounds, is_past_buckets};
 ghost use Rattle.icescan_audit_findings.specs.FieldFlaws.{source_of, sources_of, type_taken, value_at};
@@ -251,24 +251,6 @@ pub fn push_of_field(
     Ok(())
 }
 
-/// Puts what is wrong with a file's value of a field last, whose column has this type.
-fn push_typed_flaws(
-    alloc: Global,
-    flaws: &mut Vec<Flaw>,
-    bounds: &FileBounds<'_, '_>,
-    field: &SourceField,
-    column_type: &ColumnType,
-    value: &Cell,
-) -> Result<(), AllocError>
-    ensures { OnOk result (flaws.new.items
-        ≡ flaws.old.items ++ flaws_as bounds.now field.now (Some column_type.now) value.now) }
-{
-    let nulls = has_other_nulls(bounds, field.column, value);
-    let outside = is_outside_bounds(alloc, bounds, field, column_type, value)?;
-    push_of_field(flaws, nulls, FieldFlaw::OtherNulls, &field.name)?;
-    push_of_field(flaws, outside, FieldFlaw::OutsideBounds, &field.name)
-}
-
 /// Puts what is wrong with a file's value of a field last.
 fn push_field_flaws(
     alloc: Global,
@@ -279,10 +261,13 @@ fn push_field_flaws(
 ) -> Result<(), AllocError>
     ensures { OnOk result (flaws.new.items ≡ flaws.old.items ++ field_flaws bounds.now field.now value.now) }
 {
-    match &field.column_type {
-        Some(column_type) => push_typed_flaws(alloc, flaws, bounds, field, column_type, value),
-        None => Ok(()),
-    }
+    let Some(column_type) = &field.column_type else {
+        return Ok(());
+    };
+    let nulls = has_other_nulls(bounds, field.column, value);
+    let outside = is_outside_bounds(alloc, bounds, field, column_type, value)?;
+    push_of_field(flaws, nulls, FieldFlaw::OtherNulls, &field.name)?;
+    push_of_field(flaws, outside, FieldFlaw::OutsideBounds, &field.name)
 }
 
 /// Puts what is wrong with a file's partition values last, field by field.

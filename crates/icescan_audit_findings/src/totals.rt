@@ -1,8 +1,7 @@
 //! The totals that a snapshot's summary says, held against the snapshot's live files.
 
 ghost use Rattle.std.specs.Prelude.{◌≡◌, ◌++◌, IfOk, OnOk};
-ghost use Rattle.icescan_audit_findings.specs.Totals.{false_total, false_totals, file_adds, has_equalities};
-ghost use Rattle.icescan_audit_findings.specs.Totals.{has_positions, is_data, number_where, total_of};
+ghost use Rattle.icescan_audit_findings.specs.Totals.{false_total, false_totals, file_adds, total_of};
 
 use crate::repeats::LiveFile;
 use contract_words::Items;
@@ -43,43 +42,18 @@ pub struct FalseTotal {
     pub counted: i128,
 }
 
-/// Whether a file of this content has data.
-fn is_data(content: FileContent) -> bool
-    ensures { result ≡ is_data content }
-{
-    matches!(content, FileContent::Data)
-}
-
-fn has_positions(content: FileContent) -> bool
-    ensures { result ≡ has_positions content }
-{
-    matches!(content, FileContent::PositionDeletes)
-}
-
-fn has_equalities(content: FileContent) -> bool
-    ensures { result ≡ has_equalities content }
-{
-    matches!(content, FileContent::EqualityDeletes)
-}
-
-/// The number, where it is counted.
-fn number_where(is_counted: bool, number: i64) -> i64
-    ensures { result ≡ number_where is_counted number }
-{
-    if is_counted { number } else { 0 }
-}
-
 /// What a live file adds to a total.
 fn file_adds(total: Total, file: &LiveFile) -> i64
     ensures { result ≡ file_adds total file.now }
 {
-    match total {
-        Total::DataFiles => number_where(is_data(file.content), 1),
-        Total::DeleteFiles => number_where(!is_data(file.content), 1),
-        Total::Records => number_where(is_data(file.content), file.record_count),
-        Total::PositionDeletes => number_where(has_positions(file.content), file.record_count),
-        Total::EqualityDeletes => number_where(has_equalities(file.content), file.record_count),
-        Total::FilesSize => file.file_size,
+    match (total, file.content) {
+        (Total::FilesSize, _) => file.file_size,
+        (Total::DataFiles, FileContent::Data) => 1,
+        (Total::DeleteFiles, FileContent::PositionDeletes | FileContent::EqualityDeletes) => 1,
+        (Total::Records, FileContent::Data) => file.record_count,
+        (Total::PositionDeletes, FileContent::PositionDeletes) => file.record_count,
+        (Total::EqualityDeletes, FileContent::EqualityDeletes) => file.record_count,
+        _ => 0,
     }
 }
 
