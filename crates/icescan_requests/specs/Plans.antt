@@ -1,7 +1,8 @@
 -- The plan of a table's snapshot under a filter: Apache Iceberg table spec, version 2, "Scan Planning".
-use Rattle.std.specs.Prelude.{◌≡◌, ◌≢◌, ℕ, List, [], ◌∷◌, Option, None, Result, Ok, Err, OnOk, IfErr, IsErrOf}
+use Rattle.std.specs.Prelude.{◌≡◌, ◌≢◌, ℕ, List, [], ◌∷◌, Option, None, Some, Result, Ok, Err, OnOk, IfErr, IfOk}
+use Rattle.std.specs.Prelude.{IsErrOf}
 use Rattle.contract_words.specs.Outcome.{◌>>=◌}
-use Rattle.ice_desk.specs.Worlds.{HasAt}
+use Rattle.ice_desk.specs.Worlds.{EndsAt, HasAt}
 use Rattle.ice_filter.specs.declared.bound.BoundPredicate.{BoundPredicate}
 use Rattle.ice_filter.specs.declared.parts.Part.{Part}
 use Rattle.ice_manifest_reading.specs.declared.row.Row.{Row}
@@ -56,6 +57,14 @@ rows_plan ending world specs filter rows = do
 -- the paths of the wanted manifests, in the order in which they are read
 unfoldable pub manifests : List Spec → List (Part BoundPredicate) → List Row → List (List ℕ)
 manifests specs filter rows = wanted_of (scan_in specs filter rows)
+
+-- What planning rows gives where the world is told: the plan of what the wanted ones have, or its refusal; or another
+-- fault, where memory ran out or one of the reads failed that may.
+abbrev pub PlansRows : Option World → (List ℕ → Type 0) → SelectedRows → Result (List OwnedLine) RunFault → Type 0
+PlansRows told may_fail x result = (world : World) → told ≡ Some world →
+    IfOk result (λ plan. rows_plan over_wanted_rows world x.specs x.filter.parts x.rows ≡ Ok plan)
+    × IfErr result (MayEnd (rows_plan over_wanted_rows world x.specs x.filter.parts x.rows)
+    (EndsAt world may_fail (manifests x.specs x.filter.parts x.rows)) ⊥)
 
 -- ---- the plan that a request asks for
 

@@ -1,11 +1,9 @@
 //! The plans of the rows of manifest lists.
 
-ghost use Rattle.std.specs.Prelude.{◌≡◌, ◌≤◌, ℕ, List, Some, None, Ok, IfOk, IfErr, IsErrOf, length};
-ghost use Rattle.ice_desk.specs.Worlds.{EndsAt, HasAt};
-ghost use Rattle.ice_state.specs.Contents.{World};
+ghost use Rattle.std.specs.Prelude.{◌≤◌, ℕ, List, None, IfOk, IsErrOf, length};
+ghost use Rattle.ice_desk.specs.Worlds.{HasAt};
 ghost use Rattle.icescan_requests.specs.GivenPlans.{IsRowsPlanOfGiven};
-ghost use Rattle.icescan_requests.specs.Plans.{manifests, over_wanted_rows, rows_plan};
-ghost use Rattle.icescan_text.specs.Reads.{MayEnd};
+ghost use Rattle.icescan_requests.specs.Plans.{PlansRows};
 
 use crate::selected_rows::SelectedRows;
 use ice_desk::{Files, Gate, plan_scan, take_wanted};
@@ -28,12 +26,7 @@ pub fn plan_rows<F: Files>(
     files: &F,
     selected: SelectedRows,
 ) -> Result<OwnedPlan, RunFault>
-    ensures found { (world : World) → F.world files.now ≡ Some world →
-        IfOk result (λ plan.
-        rows_plan over_wanted_rows world selected.specs selected.filter.parts selected.rows ≡ Ok plan) }
-    ensures refused { (world : World) → F.world files.now ≡ Some world →
-        IfErr result (MayEnd (rows_plan over_wanted_rows world selected.specs selected.filter.parts selected.rows)
-        (EndsAt world (F.may_fail files.now) (manifests selected.specs selected.filter.parts selected.rows)) ⊥) }
+    ensures answer { PlansRows (F.world files.now) (F.may_fail files.now) selected result }
     ensures absent { (path : List ℕ) → IsErrOf result (RunFault.Absent path) → HasAt (F.world files.now) path None }
     ensures device { (path : List ℕ) → IsErrOf result (RunFault.Device path) → F.may_fail files.now path }
     ensures write { IsErrOf result RunFault.Write → ⊥ }
@@ -58,12 +51,7 @@ pub fn plan_rows_by_workers<R: Threads + Sync, F: Files + Sync, G: Gate + Sync>(
     gate: &G,
 ) -> Result<OwnedPlan, RunFault>
     requires { length selected.rows ≤ 65536 }
-    ensures found { (world : World) → F.world files.now ≡ Some world →
-        IfOk result (λ plan.
-        rows_plan over_wanted_rows world selected.specs selected.filter.parts selected.rows ≡ Ok plan) }
-    ensures refused { (world : World) → F.world files.now ≡ Some world →
-        IfErr result (MayEnd (rows_plan over_wanted_rows world selected.specs selected.filter.parts selected.rows)
-        (EndsAt world (F.may_fail files.now) (manifests selected.specs selected.filter.parts selected.rows)) ⊥) }
+    ensures answer { PlansRows (F.world files.now) (F.may_fail files.now) selected result }
     ensures absent { (path : List ℕ) → IsErrOf result (RunFault.Absent path) → HasAt (F.world files.now) path None }
     ensures device { (path : List ℕ) → IsErrOf result (RunFault.Device path) → F.may_fail files.now path }
     ensures write { IsErrOf result RunFault.Write → ⊥ }

@@ -19,7 +19,7 @@ returns-clause-found g c =
     c.covering_without_fields.ensures c.unfiltered.ensures.plans world rows in
     let there = listed_there (g.F.Files.may_fail c.args.files.now) world c.args.list.now rows has ∙ sym same in
     let ran = rw (c.in_ok-specs_of.ensures, c.deref.ensures.value, c.from_vec.ensures, c.always.ensures.parts)
-    at (c.plan_rows.ensures.found world told) in
+    at (c.plan_rows.ensures.answer world told).0 in
     IfOk-weaker c.plan_rows.result _ _ (λ plan is. there ∙ is) ran
 
 pub returns-clause-refused : goal.returns-clause-refused
@@ -30,7 +30,7 @@ returns-clause-refused g c =
     let same = same_listed c.filtering.ensures.open_where_unpartitioned c.filtering.ensures.sound
     c.covering_without_fields.ensures c.unfiltered.ensures.plans world rows in
     let ran = rw (c.in_ok-specs_of.ensures, c.deref.ensures.value, c.from_vec.ensures, c.always.ensures.parts)
-    at (c.plan_rows.ensures.refused world told) in
+    at (c.plan_rows.ensures.answer world told).1 in
     IfErr-weaker c.plan_rows.result _ _
     (no_listed_plan (g.F.Files.may_fail c.args.files.now) world c.args.list.now rows has same) ran
 

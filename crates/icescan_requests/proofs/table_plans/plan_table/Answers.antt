@@ -17,13 +17,13 @@ returns-in_err-plan-clause-refused g c =
     λ world told. rw (p.1, p.2)
     (no_plan_found (g.F.Files.may_fail c.args.files.now) world c.args.metadata.now c.args.request.now
     c.in_ok-selected.selected (c.in_ok-selected.ensures.found world told) c.in_err-plan.field-0.0
-    (c.in_err-plan.ensures.refused world told))
+    (c.in_err-plan.ensures.answer world told).1)
 
 pub returns-clause-found : goal.returns-clause-found
 returns-clause-found g c =
     λ world told.
     answer_there (g.F.Files.may_fail c.args.files.now) world c.args.metadata.now c.args.request.now
-    c.in_ok-selected.selected (c.in_ok-selected.ensures.found world told) ∙ c.in_ok-plan.ensures.found world told
+    c.in_ok-selected.selected (c.in_ok-selected.ensures.found world told) ∙ (c.in_ok-plan.ensures.answer world told).0
 
 pub returns-clause-selection : goal.returns-clause-selection
 returns-clause-selection g c =

@@ -16,14 +16,14 @@ returns-clause-found g c =
     λ world told.
     let there = answer_there (g.F.Files.may_fail c.args.files.now) world c.args.metadata.now c.args.request.now
     c.in_ok-selected.selected (c.in_ok-selected.ensures.found world told) in
-    IfOk-weaker c.plan_rows.result _ _ (λ plan is. there ∙ is) (c.plan_rows.ensures.found world told)
+    IfOk-weaker c.plan_rows.result _ _ (λ plan is. there ∙ is) (c.plan_rows.ensures.answer world told).0
 
 pub returns-clause-refused : goal.returns-clause-refused
 returns-clause-refused g c =
     λ world told.
     IfErr-weaker c.plan_rows.result _ _
     (no_plan_found (g.F.Files.may_fail c.args.files.now) world c.args.metadata.now c.args.request.now
-    c.in_ok-selected.selected (c.in_ok-selected.ensures.found world told)) (c.plan_rows.ensures.refused world told)
+    c.in_ok-selected.selected (c.in_ok-selected.ensures.found world told)) (c.plan_rows.ensures.answer world told).1
 
 pub returns-clause-given : goal.returns-clause-given
 returns-clause-given g c =
