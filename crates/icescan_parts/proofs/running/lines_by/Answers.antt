@@ -7,7 +7,7 @@ pub returns-then-is_alone-clause-given : goal.returns-then-is_alone-clause-given
 returns-then-is_alone-clause-given g c =
     let says = rw c.deref.ensures.value at c.in_ok-metadata.ensures.read in
     let stay = rw c.as_slice-gone.ensures.value at c.in_ok-rest.ensures.given in
-    let are = rw (c.deref-2.ensures.value, c.deref-3.ensures.value) at c.in_ok-alone.ensures in
+    let are = rw (c.deref-then-is_alone.ensures.value, c.deref-then-is_alone-2.ensures.value) at c.in_ok-alone.ensures in
     rw c.if-is_alone.true (
       c.in_ok-ids.ids.items,
       c.in_ok-ids.ensures.listed,
@@ -29,9 +29,9 @@ returns-then-is_alone-clause-given g c =
 pub returns-clause-given : goal.returns-clause-given
 returns-clause-given g c =
     let says = rw c.deref.ensures.value at c.in_ok-metadata.ensures.read in
-    let given = rw c.as_slice-gone.ensures.value at c.lines_kept.ensures.given in
+    let given = rw c.as_slice-gone.ensures.value at c.lines_kept-else-is_alone.ensures.given in
     rw c.if-is_alone.false
-    (IfOk-weaker c.lines_kept.result _ _ (λ lines are. (
+    (IfOk-weaker c.lines_kept-else-is_alone.result _ _ (λ lines are. (
       c.in_ok-ids.ids.items,
       c.in_ok-ids.ensures.listed,
       record {
