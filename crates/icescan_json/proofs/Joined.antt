@@ -29,6 +29,10 @@ pushed_first xs x = reverse-append xs (x ∷ [])
 pub three : (m0 m1 m2 m3 a b c : List ℕ) → m1 ≡ m0 ++ a → m2 ≡ m1 ++ b → m3 ≡ m2 ++ c → m3 ≡ m0 ++ (a ++ (b ++ c))
 three m0 m1 m2 m3 a b c p q r = r ∙ rw (q, p) (simp append_assoc)
 
+-- and one more in front of what was put
+pub in_front : (m0 m1 m2 a b : List ℕ) → m1 ≡ m0 ++ a → m2 ≡ m1 ++ b → m2 ≡ m0 ++ (a ++ b)
+in_front m0 m1 m2 a b p q = q ∙ rw p (append_assoc m0 a b)
+
 -- ---- predicates
 
 more_choices : (t : Option ColumnType) (ls : List Literal) → items_text true (items_of (map (literal_json t) ls))
