@@ -30,9 +30,8 @@ fn copy_text(alloc: Global, text: &Option<Text>) -> Result<Option<Text>, AllocEr
 pub fn copy_request(alloc: Global, request: &Request) -> Result<Request, AllocError>
     ensures { IfOk result (λ copied. copied ≡ request.now) }
 {
-    let target = copy_target(alloc, &request.target)?;
     Ok(Request {
-        target,
+        target: copy_target(alloc, &request.target)?,
         filter: copy_text(alloc, &request.filter)?,
     })
 }
