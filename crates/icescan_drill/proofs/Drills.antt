@@ -5,7 +5,9 @@ use Rattle.std.proofs.Math.Nat.{add-mul}
 use Rattle.std.proofs.lemmas.Bool.{cases_lt}
 use Rattle.std.proofs.lemmas.List.{take_all}
 use Rattle.std.proofs.lemmas.List.Sums.{sum_by-take-drop}
-use Rattle.std.specs.Prelude.{Bool, true, false, ◌||◌, slice_get, sum, take, drop, length, Ok, ◌≤◌}
+use Rattle.std.specs.Prelude.{Bool, true, false, ◌||◌, slice_get, sum, take, drop, length, Ok, Err, ◌≤◌}
+use Rattle.std.specs.Prelude.{IfOk, OnOk, Result, vec_len}
+use Rattle.std.specs.Global.{Vec}
 use Rattle.std.specs.FinMap as map
 use Rattle.std.specs.List.{list_any}
 use Rattle.std.specs.Option.{option_map}
@@ -25,8 +27,8 @@ use Rattle.ice_state.specs.Contents.{content, every_row}
 use Rattle.ice_state.specs.Lines.{OwnedLine}
 use Rattle.ice_state.specs.Outcomes.{outcome}
 use Rattle.ice_state.specs.Scans.{Scanned, scan_of}
-use Rattle.icescan_drill.specs.Drills.{EachSawItsFiles, HasEachFile, SawItsFiles, file_path, has_file, plan_of_state}
-use Rattle.icescan_drill.specs.Drills.{scan_of_state, sequence_of}
+use Rattle.icescan_drill.specs.Drills.{EachSawItsFiles, HasEachFile, HaveDrilled, SawItsFiles, file_path, has_file}
+use Rattle.icescan_drill.specs.Drills.{plan_of_state, scan_of_state, sequence_of}
 use Rattle.icescan_text.specs.Faults.{of_finish, of_meta, of_prepare, of_scan}
 use Rattle.icescan_text.specs.declared.fault.RunFault.TheVariants as run
 use Rattle.icescan_text.specs.Reads.{all_present, as_run, rows_at}
@@ -106,6 +108,16 @@ saw_both first next m r len commits is_next is_len front back =
     let within : i - m < r = omega (arith, is_len, later, below) in
     subst (λ (k : ℕ). SawItsFiles k commits) same (back (i - m) within))
     (cases_lt i m)
+
+-- the seat of one thread alone
+pub drilled_alone : {E : Type 0} (r : Result (Vec ℕ) E) (first commits : ℕ) (before : Vec ℕ) → vec_len before ≡ 1
+    → IfOk r (λ after. vec_len after ≡ vec_len before)
+    → IfOk r (λ after. sum after.items ≡ sum before.items + commits) → OnOk r (SawItsFiles first commits)
+    → IfOk r (λ after. HaveDrilled first commits before after)
+drilled_alone (Ok after) first commits before one count made saw =
+    let each : vec_len before * commits ≡ commits = rw one (omega arith) in
+    (count, omega (arith, made, each), saw_alone first (vec_len before) commits one saw)
+drilled_alone (Err fault) first commits before one count made saw = tt
 
 -- ---- no refusal of these is a failed write
 

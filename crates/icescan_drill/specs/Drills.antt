@@ -1,6 +1,7 @@
 -- A drill: threads that commit to one table in memory at once. Threads and the commits of a thread count from 0.
 use Rattle.std.specs.Prelude.{◌≡◌, ℕ, ◌+◌, ◌*◌, ◌<◌, ◌≤◌, pos, Bool, true, false, List, [], ◌∷◌, ◌++◌, length, codes}
-use Rattle.std.specs.Prelude.{Option, None, Some, Result, Ok}
+use Rattle.std.specs.Prelude.{Option, None, Some, Result, Ok, sum, vec_len}
+use Rattle.std.specs.Global.{Vec}
 use Rattle.std.specs.List.{list_any}
 use Rattle.std.specs.FinMap as map
 use Rattle.std.specs.Fmt.{decimal}
@@ -121,6 +122,12 @@ pub record SawItsFiles (thread commits : ℕ) : Type 0 where
 -- each of so many threads did, from the first of them on
 abbrev pub EachSawItsFiles : ℕ → ℕ → ℕ → Type 0
 EachSawItsFiles first count commits = (i : ℕ) → i < count → SawItsFiles (first + i) commits
+
+-- The seats of threads, of which this is the first, after a drill of so many commits each: as many seats, which have
+-- counted all commits; and each of the threads saw its files.
+abbrev pub HaveDrilled : ℕ → ℕ → Vec ℕ → Vec ℕ → Type 0
+HaveDrilled first commits before after = (vec_len after ≡ vec_len before)
+    × (sum after.items ≡ sum before.items + vec_len before * commits) × EachSawItsFiles first (vec_len before) commits
 
 -- ---- what a drill prints
 

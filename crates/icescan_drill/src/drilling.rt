@@ -3,7 +3,7 @@
 ghost use Rattle.std.specs.Prelude.{◌≡◌, ◌+◌, ◌*◌, ◌<◌, ◌≤◌, length, sum, vec_len, IfOk, OnOk, OnErr, IsErrOf};
 ghost use Rattle.std.specs.Arc.{arc_value};
 ghost use Rattle.std.specs.Thread.{IsSync};
-ghost use Rattle.icescan_drill.specs.Drills.{EachSawItsFiles, IsTurn, SawItsFiles};
+ghost use Rattle.icescan_drill.specs.Drills.{EachSawItsFiles, HaveDrilled, IsTurn, SawItsFiles};
 
 use crate::drilled_table::{find_files, open_table, plan_version, prepare_append};
 use crate::watch::Watch;
@@ -15,93 +15,77 @@ use std::sync::ledger::{Blank, Ledger};
 use std::sync::{Arc, Wait};
 use std::thread::{Threads, join};
 
-/// Makes a commit from a thread's seat: on the version that stands, and after each conflict on the newer one. The
-/// refusal is `Conflict` after as many tries as may be needed; then none of them was made.
-fn commit_file<L: Ledger, R: Wait + Watch>(
-    rt: &R,
+/// A thread of a drill, which makes its commits to a catalog.
+#[derive(Drop)]
+struct Committer<'a, L: Ledger, R> {
+    rt: &'a R,
     alloc: Global,
-    catalog: &Catalog<L>,
-    seat: &mut Seat<L>,
+    catalog: &'a Catalog<L>,
     drill: Drill,
+    /// Its number.
     thread: u64,
-    commit: u64,
-) -> Result<(), RunFault>
-    requires { IsTurn thread commit }
-    ensures counted { OnOk result (seat.new ≡ seat.old + 1) }
-    ensures same_count { OnErr result (seat.new ≡ seat.old) }
-    ensures write { IsErrOf result RunFault.Write → ⊥ }
-{
-    let mut version = catalog.pin(rt, seat)?;
-    for _try in 0..drill.tries() {
-        let prepared = prepare_append(alloc, &version, thread, commit)?;
-        match catalog.commit(rt, seat, prepared) {
-            Ok(receipt) => {
-                rt.committed(receipt.number);
-                return Ok(());
+}
+
+impl<L: Ledger, R: Wait + Watch> Committer<'_, L, R> {
+    /// Makes a commit from the thread's seat: on the version that stands, and after each conflict on the newer one. The
+    /// refusal is `Conflict` after as many tries as may be needed; then none of them was made.
+    fn commit_file(&self, seat: &mut Seat<L>, commit: u64) -> Result<(), RunFault>
+        requires { IsTurn self.now.thread commit }
+        ensures counted { OnOk result (seat.new ≡ seat.old + 1) }
+        ensures same_count { OnErr result (seat.new ≡ seat.old) }
+        ensures write { IsErrOf result RunFault.Write → ⊥ }
+    {
+        let mut version = self.catalog.pin(self.rt, seat)?;
+        for _try in 0..self.drill.tries() {
+            let prepared = prepare_append(self.alloc, &version, self.thread, commit)?;
+            match self.catalog.commit(self.rt, seat, prepared) {
+                Ok(receipt) => {
+                    self.rt.committed(receipt.number);
+                    return Ok(());
+                }
+                Err(conflict) => version = conflict.newer.ok_or(RunFault::Memory)?,
             }
-            Err(conflict) => version = conflict.newer.ok_or(RunFault::Memory)?,
         }
+        Err(RunFault::Drill(DrillFault::Conflict))
     }
-    Err(RunFault::Drill(DrillFault::Conflict))
-}
 
-/// Makes all commits of a thread.
-fn commit_all<L: Ledger, R: Wait + Watch>(
-    rt: &R,
-    alloc: Global,
-    catalog: &Catalog<L>,
-    seat: &mut Seat<L>,
-    drill: Drill,
-    thread: u64,
-) -> Result<(), RunFault>
-    requires { thread < 64 }
-    ensures counted { OnOk result (seat.new ≡ seat.old + drill.commits) }
-    ensures write { IsErrOf result RunFault.Write → ⊥ }
-{
-    for commit in 0..drill.commits() {
-        commit_file(rt, alloc, catalog, seat, drill, thread, commit)?;
+    /// Makes all commits of the thread.
+    fn commit_all(&self, seat: &mut Seat<L>) -> Result<(), RunFault>
+        requires { self.now.thread < 64 }
+        ensures counted { OnOk result (seat.new ≡ seat.old + self.now.drill.commits) }
+        ensures write { IsErrOf result RunFault.Write → ⊥ }
+    {
+        for commit in 0..self.drill.commits() {
+            self.commit_file(seat, commit)?;
+        }
+        Ok(())
     }
-    Ok(())
-}
 
-/// Sees that the version that stands has all files of a thread that has made its commits.
-fn check_files<L: Ledger, R: Wait>(
-    rt: &R,
-    alloc: Global,
-    catalog: &Catalog<L>,
-    seat: &mut Seat<L>,
-    drill: Drill,
-    thread: u64,
-) -> Result<(), RunFault>
-    requires { drill.commits ≤ seat.old }
-    ensures count { seat.new ≡ seat.old }
-    ensures seen { OnOk result (SawItsFiles thread drill.commits) }
-    ensures write { IsErrOf result RunFault.Write → ⊥ }
-{
-    let version = catalog.pin(rt, seat)?;
-    let plan = plan_version(alloc, &version)?;
-    find_files(alloc, &plan.lines(), thread, drill.commits())
-}
+    /// Sees that the version that stands has all files of the thread, which has made its commits.
+    fn check_files(&self, seat: &mut Seat<L>) -> Result<(), RunFault>
+        requires { self.now.drill.commits ≤ seat.old }
+        ensures count { seat.new ≡ seat.old }
+        ensures seen { OnOk result (SawItsFiles self.now.thread self.now.drill.commits) }
+        ensures write { IsErrOf result RunFault.Write → ⊥ }
+    {
+        let version = self.catalog.pin(self.rt, seat)?;
+        let plan = plan_version(self.alloc, &version)?;
+        find_files(self.alloc, &plan.lines(), self.thread, self.drill.commits())
+    }
 
-/// Drills from one seat: makes all commits of its thread, and then sees that they are there.
-fn drill_one<L: Ledger, R: Wait + Watch>(
-    rt: &R,
-    alloc: Global,
-    catalog: &Catalog<L>,
-    mut seats: Vec<Seat<L>>,
-    drill: Drill,
-    thread: u64,
-) -> Result<Vec<Seat<L>>, RunFault>
-    requires one { vec_len seats ≡ 1 }
-    requires thread { thread < 64 }
-    ensures count { IfOk result (λ after. vec_len after ≡ vec_len seats) }
-    ensures commits { IfOk result (λ after. sum after.items ≡ sum seats.items + drill.commits) }
-    ensures seen { OnOk result (SawItsFiles thread drill.commits) }
-    ensures write { IsErrOf result RunFault.Write → ⊥ }
-{
-    commit_all(rt, alloc, catalog, &mut seats[0], drill, thread)?;
-    check_files(rt, alloc, catalog, &mut seats[0], drill, thread)?;
-    Ok(seats)
+    /// Drills from the one seat: makes all commits of the thread, and then sees that they are there.
+    fn drill(&self, mut seats: Vec<Seat<L>>) -> Result<Vec<Seat<L>>, RunFault>
+        requires one { vec_len seats ≡ 1 }
+        requires thread { self.now.thread < 64 }
+        ensures count { IfOk result (λ after. vec_len after ≡ vec_len seats) }
+        ensures commits { IfOk result (λ after. sum after.items ≡ sum seats.items + self.now.drill.commits) }
+        ensures seen { OnOk result (SawItsFiles self.now.thread self.now.drill.commits) }
+        ensures write { IsErrOf result RunFault.Write → ⊥ }
+    {
+        self.commit_all(&mut seats[0])?;
+        self.check_files(&mut seats[0])?;
+        Ok(seats)
+    }
 }
 
 /// The seats of both.
@@ -127,13 +111,18 @@ fn drill_all<L: Ledger + Send + Sync, R: Threads + Wait + Watch + Sync>(
     first: u64,
 ) -> Result<Vec<Seat<L>>, RunFault>
     requires { (0 < vec_len seats) × (first + vec_len seats ≤ 64) }
-    ensures count { IfOk result (λ after. vec_len after ≡ vec_len seats) }
-    ensures commits { IfOk result (λ after. sum after.items ≡ sum seats.items + vec_len seats * drill.commits) }
-    ensures seen { OnOk result (EachSawItsFiles first (vec_len seats) drill.commits) }
+    ensures drilled { IfOk result (λ after. HaveDrilled first drill.commits seats after) }
     ensures write { IsErrOf result RunFault.Write → ⊥ }
 {
     if seats.len() == 1 {
-        return drill_one(rt, alloc, catalog, seats, drill, first);
+        let committer = Committer {
+            rt,
+            alloc,
+            catalog,
+            drill,
+            thread: first,
+        };
+        return committer.drill(seats);
     }
     let half = seats.len() / 2;
     let right = seats.split_off(half)?;
@@ -142,16 +131,12 @@ fn drill_all<L: Ledger + Send + Sync, R: Threads + Wait + Watch + Sync>(
         rt,
         move || -> Result<Vec<Seat<L>>, RunFault>
             requires { IsSync R.row × IsSync L.row × (0 < vec_len seats) × (first + vec_len seats ≤ 64) }
-            ensures counted { IfOk result (λ after. (vec_len after ≡ vec_len seats) ×
-                (sum after.items ≡ sum seats.items + vec_len seats * drill.commits)) }
-            ensures seen { OnOk result (EachSawItsFiles first (vec_len seats) drill.commits) }
+            ensures drilled { IfOk result (λ after. HaveDrilled first drill.commits seats after) }
             ensures write { IsErrOf result RunFault.Write → ⊥ }
         { drill_all(rt, alloc, catalog, seats, drill, first) },
         move || -> Result<Vec<Seat<L>>, RunFault>
             requires { IsSync R.row × IsSync L.row × (0 < vec_len right) × (next + vec_len right ≤ 64) }
-            ensures counted { IfOk result (λ after. (vec_len after ≡ vec_len right) ×
-                (sum after.items ≡ sum right.items + vec_len right * drill.commits)) }
-            ensures seen { OnOk result (EachSawItsFiles next (vec_len right) drill.commits) }
+            ensures drilled { IfOk result (λ after. HaveDrilled next drill.commits right after) }
             ensures write { IsErrOf result RunFault.Write → ⊥ }
         { drill_all(rt, alloc, catalog, right, drill, next) },
     );
