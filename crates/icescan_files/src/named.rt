@@ -2,7 +2,7 @@
 
 ghost use Rattle.std.specs.Prelude.{◌≡◌, None};
 
-use crate::folders::Folders;
+use crate::folders::{Below, Folders};
 use ice_desk::{Files, ReadFault};
 use std::alloc::Global;
 
@@ -20,6 +20,16 @@ impl<'a, D: Folders> NamedFiles<'a, D> {
     {
         NamedFiles { folders }
     }
+
+    /// The files of the folder that the front of a name says.
+    fn beside<'b>(&'b self, name: &'b str) -> Below<'b, D>
+        ensures { result.folders.now ≡ self.now.folders.now }
+    {
+        match name.rsplit_once('/') {
+            Some((folder, _)) => Below::new(self.folders, folder, folder),
+            None => Below::new(self.folders, ".", ""),
+        }
+    }
 }
 
 impl<D: Folders> Files for NamedFiles<'_, D> {
@@ -32,15 +42,10 @@ impl<D: Folders> Files for NamedFiles<'_, D> {
     ghost may_fail = { λ _ _. Unit {0} };
 
     fn read(&self, alloc: Global, path: &str) -> Result<Vec<u8>, ReadFault> {
-        let mut bytes = Vec::new(alloc);
-        self.read_into(alloc, path, &mut bytes)?;
-        Ok(bytes)
+        self.beside(path).read(alloc, path)
     }
 
     fn read_into(&self, alloc: Global, path: &str, bytes: &mut Vec<u8>) -> Result<(), ReadFault> {
-        match path.rsplit_once('/') {
-            Some((folder, _)) => self.folders.read_below(alloc, folder, folder, path, bytes),
-            None => self.folders.read_below(alloc, ".", "", path, bytes),
-        }
+        self.beside(path).read_into(alloc, path, bytes)
     }
 }
