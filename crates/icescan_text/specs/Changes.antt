@@ -28,6 +28,8 @@ use Rattle.icescan_text.specs.declared.change.fault.ChangeFault.{ChangeFault}
 use Rattle.icescan_text.specs.declared.change.fault.ChangeFault.TheVariants.{Bad, NotJson}
 use Rattle.icescan_text.specs.declared.change.fault.ChangeMember.{ChangeMember}
 use Rattle.icescan_text.specs.declared.change.fault.ChangeMember.TheVariants as member
+use Rattle.icescan_text.specs.declared.change.new_file.FileKind.{FileKind}
+use Rattle.icescan_text.specs.declared.change.new_file.FileKind.TheVariants as file_kind
 
 abbrev pub member_name : ChangeMember → List ℕ
 member_name member.Data = codes "data"
@@ -162,6 +164,10 @@ delete_file_of d = do
   referenced ← referenced_in d
   Ok (record file { content = content; equality_ids = ids; referenced = referenced })
 
+abbrev pub new_file_of : FileKind → Data → Result NewFile ChangeFault
+new_file_of file_kind.Data d = data_file_of d
+new_file_of file_kind.Deletes d = delete_file_of d
+
 -- ---- the change
 
 -- an append has no delete files
@@ -176,8 +182,8 @@ change_in asked_for d = do
   data_objects ← needed as_objects member.Data d
   delete_objects ← needed as_objects member.Deletes d
   _ ← allowed asked_for delete_objects
-  files ← each data_file_of data_objects
-  deletes ← each delete_file_of delete_objects
+  files ← each (new_file_of file_kind.Data) data_objects
+  deletes ← each (new_file_of file_kind.Deletes) delete_objects
   Ok (record { files = files; deletes = deletes })
 
 abbrev pub or_not_json : {A : Type 0} → Option A → Result A ChangeFault

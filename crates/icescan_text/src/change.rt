@@ -3,16 +3,14 @@
 ghost use Rattle.std.specs.Prelude.{◌≡◌};
 ghost use Rattle.contract_words.specs.Outcome.{Gives};
 ghost use Rattle.serde_json.specs.View.{items_view, view};
-ghost use Rattle.icescan_text.specs.Changes.{allowed, change_in, change_of, data_file_of, delete_file_of, each};
-ghost use Rattle.icescan_text.specs.Changes.{json_of};
-ghost use Rattle.icescan_text.specs.Changes.{text_json};
+ghost use Rattle.icescan_text.specs.Changes.{allowed, change_in, change_of, each, json_of, new_file_of, text_json};
 
 mod fault;
 mod members;
 mod new_file;
 
 use crate::change::members::objects_at;
-use crate::change::new_file::{data_file_from, delete_file_from};
+use crate::change::new_file::{FileKind, new_file_from};
 use contract_words::Items;
 pub use fault::{ChangeFault, ChangeMember};
 use ice_catalog_changes::Change;
@@ -67,24 +65,17 @@ fn check_allowed(kind: ChangeKind, deletes: &Vec<Value>) -> Result<(), ChangeFau
     Ok(())
 }
 
-/// The data files of an array.
-fn files_from(alloc: Global, items: &Vec<Value>) -> Result<Items<NewFile>, ChangeFault>
-    ensures { Gives ChangeFault.Memory (λ files. files) result (each data_file_of (items_view items.now.items)) }
+/// The files of an array, of this kind.
+fn files_from(
+    alloc: Global,
+    items: &Vec<Value>,
+    kind: FileKind,
+) -> Result<Items<NewFile>, ChangeFault>
+    ensures { Gives ChangeFault.Memory (λ files. files) result (each (new_file_of kind) (items_view items.now.items)) }
 {
     let mut files = Items::new(alloc);
     'files: for item in items {
-        files.push(data_file_from(alloc, item)?)?;
-    }
-    Ok(files)
-}
-
-/// The delete files of an array.
-fn delete_files_from(alloc: Global, items: &Vec<Value>) -> Result<Items<NewFile>, ChangeFault>
-    ensures { Gives ChangeFault.Memory (λ files. files) result (each delete_file_of (items_view items.now.items)) }
-{
-    let mut files = Items::new(alloc);
-    'files: for item in items {
-        files.push(delete_file_from(alloc, item)?)?;
+        files.push(new_file_from(alloc, item, kind)?)?;
     }
     Ok(files)
 }
@@ -98,8 +89,8 @@ fn change_from(alloc: Global, json: &Value, kind: ChangeKind) -> Result<Change, 
     let deletes = objects_at(json, ChangeMember::Deletes)?;
     check_allowed(kind, deletes)?;
     Ok(Change {
-        files: files_from(alloc, data)?,
-        deletes: delete_files_from(alloc, deletes)?,
+        files: files_from(alloc, data, FileKind::Data)?,
+        deletes: files_from(alloc, deletes, FileKind::Deletes)?,
     })
 }
 

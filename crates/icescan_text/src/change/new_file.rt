@@ -4,6 +4,7 @@ ghost use Rattle.std.specs.Prelude.{◌≡◌};
 ghost use Rattle.contract_words.specs.Outcome.{Gives};
 ghost use Rattle.serde_json.specs.View.{view};
 ghost use Rattle.icescan_text.specs.Changes.{as_delete_content, content_in, data_file_of, delete_file_of, file_of};
+ghost use Rattle.icescan_text.specs.Changes.{new_file_of};
 
 use crate::change::fault::{ChangeFault, ChangeMember};
 use crate::change::members::{
@@ -14,6 +15,15 @@ use ice_manifest::NewFile;
 use ice_value::FileContent;
 use serde_json::Value;
 use std::alloc::Global;
+
+/// The kind of the files in an array of a change.
+#[derive(Clone, Copy)]
+pub enum FileKind {
+    /// Data files.
+    Data,
+    /// Delete files.
+    Deletes,
+}
 
 /// What is said of each file, as of a data file that names no other.
 #[tactic(auto, unfolding(crate::specs::Changes::file_of))]
@@ -35,7 +45,7 @@ fn file_from(alloc: Global, json: &Value) -> Result<NewFile, ChangeFault>
 
 /// A data file.
 #[tactic(auto, unfolding(crate::specs::Changes::data_file_of))]
-pub fn data_file_from(alloc: Global, json: &Value) -> Result<NewFile, ChangeFault>
+fn data_file_from(alloc: Global, json: &Value) -> Result<NewFile, ChangeFault>
     ensures { Gives ChangeFault.Memory (λ file. file) result (data_file_of (view json.now)) }
 {
     let said = file_from(alloc, json)?;
@@ -57,7 +67,7 @@ fn content_at(json: &Value) -> Result<FileContent, ChangeFault>
 
 /// A delete file.
 #[tactic(auto, unfolding(crate::specs::Changes::delete_file_of))]
-pub fn delete_file_from(alloc: Global, json: &Value) -> Result<NewFile, ChangeFault>
+fn delete_file_from(alloc: Global, json: &Value) -> Result<NewFile, ChangeFault>
     ensures { Gives ChangeFault.Memory (λ file. file) result (delete_file_of (view json.now)) }
 {
     let file = file_from(alloc, json)?;
@@ -67,4 +77,14 @@ pub fn delete_file_from(alloc: Global, json: &Value) -> Result<NewFile, ChangeFa
         referenced: referenced_at(alloc, json)?,
         ..file
     })
+}
+
+/// A file of a kind.
+pub fn new_file_from(alloc: Global, json: &Value, kind: FileKind) -> Result<NewFile, ChangeFault>
+    ensures { Gives ChangeFault.Memory (λ file. file) result (new_file_of kind (view json.now)) }
+{
+    match kind {
+        FileKind::Data => data_file_from(alloc, json),
+        FileKind::Deletes => delete_file_from(alloc, json),
+    }
 }
