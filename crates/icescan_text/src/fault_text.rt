@@ -6,7 +6,7 @@ ghost use Rattle.icescan_text.specs.FaultTexts.{schema_text, avro_text, list_tex
 ghost use Rattle.icescan_text.specs.FaultTexts.{finish_text};
 ghost use Rattle.icescan_text.specs.FaultTexts.{meta_text, filter_text, change_text, prepare_text, drill_fault_text};
 ghost use Rattle.icescan_text.specs.FaultTexts.{run_text, line_text, fault_text, newest_text};
-ghost use Rattle.icescan_text.specs.FaultTexts.{lineage_text, state_flaw_name, state_text};
+ghost use Rattle.icescan_text.specs.FaultTexts.{lineage_text, state_text};
 ghost use Rattle.icescan_print.specs.Written.{Wrote};
 
 use crate::change::ChangeFault;
@@ -101,23 +101,10 @@ fn put_lineage_fault<S: Sink>(sink: &mut S, fault: LineageFault) -> Result<(), S
     }
 }
 
-/// The number and the name of a flaw.
-fn state_flaw_name(flaw: StateFlaw) -> &'static [u8]
-    ensures { result.now ≡ state_flaw_name flaw }
-{
-    match flaw {
-        StateFlaw::NotAState => b"Y1 NotAState ",
-        StateFlaw::OtherVersion => b"Y2 OtherVersion ",
-        StateFlaw::Damaged => b"Y3 Damaged ",
-        StateFlaw::OtherScan => b"Y4 OtherScan ",
-        StateFlaw::NotOfScan => b"Y5 NotOfScan ",
-    }
-}
-
 fn put_state_fault<S: Sink>(sink: &mut S, path: &[u8], flaw: StateFlaw) -> Result<(), SinkFault>
     ensures { Wrote S.taken S.may_fail sink.old result sink.new (state_text path.now flaw) }
 {
-    put_named_path(sink, state_flaw_name(flaw), path)
+    put_named_path(sink, flaw.name(), path)
 }
 
 #[tactic(auto, unfolding(crate::specs::FaultTexts::drill_fault_text))]

@@ -1,5 +1,8 @@
 //! Why a state's file is refused.
 
+ghost use Rattle.std.specs.Prelude.{◌≡◌};
+ghost use Rattle.icescan_text.specs.FaultTexts.{state_flaw_name};
+
 /// Why a state's file is refused: the first of these that holds.
 #[derive(Clone, Copy, Debug, PartialEq, Eq)]
 pub enum StateFlaw {
@@ -13,4 +16,19 @@ pub enum StateFlaw {
     OtherScan,
     /// It says what no manifest of the scan can give.
     NotOfScan,
+}
+
+impl StateFlaw {
+    /// Its number and its name.
+    pub(crate) fn name(self) -> &'static [u8]
+        ensures { result.now ≡ state_flaw_name self }
+    {
+        match self {
+            StateFlaw::NotAState => b"Y1 NotAState ",
+            StateFlaw::OtherVersion => b"Y2 OtherVersion ",
+            StateFlaw::Damaged => b"Y3 Damaged ",
+            StateFlaw::OtherScan => b"Y4 OtherScan ",
+            StateFlaw::NotOfScan => b"Y5 NotOfScan ",
+        }
+    }
 }
