@@ -209,12 +209,9 @@ impl From<PrepareFault> for RunFault {
 impl From<WantedFault> for RunFault {
     ghost from_gives = { λ fault e. e ≡ of_wanted fault };
 
+    #[tactic(auto, using(crate::proofs::Wanted::by_plan))]
     fn from(fault: WantedFault) -> RunFault {
-        match fault {
-            WantedFault::Absent(path) => RunFault::Absent(path),
-            WantedFault::Device(path) => RunFault::Device(path),
-            WantedFault::Memory => RunFault::Memory,
-        }
+        PlanFault::from(fault).into()
     }
 }
 
