@@ -12,11 +12,10 @@ ghost use Rattle.icescan_text.specs.Reads.{MayEnd};
 use crate::json_lines::{columns_objects, table_objects};
 use crate::lines::columns_lines;
 use ice_desk::Files;
-use ice_meta::{MetaFault, Metadata, Schema, Table, Target};
+use ice_meta::{MetaFault, Metadata, Schema, Target};
 use icescan_forms::Format;
 use icescan_print::{Sink, write_all};
 use icescan_text::{RunFault, read_file};
-use serde_json::Value;
 use std::alloc::{AllocError, Global};
 
 /// What is asked of a table's metadata.
@@ -41,19 +40,19 @@ fn check_target(metadata: &Metadata, target: &Target) -> Result<(), MetaFault>
     }
 }
 
-/// A schema's columns and a table's partition specs, in a form.
+/// The columns of a schema and the partition specs that this metadata says, in a form.
 fn columns_in(
     alloc: Global,
     format: Format,
-    metadata: &Value,
+    metadata: &Metadata,
     schema: &Schema,
-    table: &Table,
 ) -> Result<Vec<u8>, AllocError>
-    ensures { IfOk result (λ text. text.items ≡ columns_in format (view metadata.now) schema.now table.now) }
+    ensures { IfOk result (λ text. text.items
+        ≡ columns_in format (view metadata.now.json) schema.now metadata.now.table) }
 {
     match format {
-        Format::Text => columns_lines(alloc, metadata, schema, table),
-        Format::Json => columns_objects(alloc, metadata, schema, table),
+        Format::Text => columns_lines(alloc, metadata, schema),
+        Format::Json => columns_objects(alloc, metadata, schema),
     }
 }
 
@@ -71,7 +70,7 @@ fn columns_for(
 {
     check_target(metadata, target)?;
     let schema = metadata.schema_for(target);
-    let text = columns_in(alloc, format, metadata.json(), schema, metadata.table())?;
+    let text = columns_in(alloc, format, metadata, schema)?;
     Ok(text)
 }
 

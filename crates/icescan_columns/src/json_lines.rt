@@ -13,11 +13,10 @@ ghost use Rattle.icescan_columns.specs.JsonLines.{table_objects};
 ghost use Rattle.icescan_forms.specs.Objects.{object_line, text_if, value_json};
 ghost use Rattle.icescan_print.specs.TableTexts.{main_ref};
 
-use crate::lines::compared_word;
 use crate::names::push_column;
 use crate::told::{ToldColumn, told_columns};
 use ice_filter::Column as Names;
-use ice_meta::{PartitionField, Ref, RefKind, Schema, Snapshot, Spec, Table};
+use ice_meta::{Metadata, PartitionField, Ref, RefKind, Schema, Snapshot, Spec, Table};
 use icescan_forms::{ObjectLines, Value};
 use icescan_print::main_of;
 use serde_json::Value as Json;
@@ -64,7 +63,7 @@ fn push_named_column<'a>(
         ("column", Value::Int(told.id)),
         ("type", Value::Text(told.type_word.as_bytes())),
         ("required", Value::Truth(told.required)),
-        ("filter", Value::Text(compared_word(told.compared))),
+        ("filter", Value::Text(told.compared.word())),
         ("name", name_value(name)),
     ])
 }
@@ -210,20 +209,20 @@ fn push_default(lines: &mut ObjectLines, id: i32) -> Result<(), AllocError>
     ])
 }
 
-/// A schema's columns and a table's partition specs, as lines of JSON.
+/// A schema's columns and the partition specs that this metadata says, as lines of JSON.
 #[tactic(auto, unfolding(crate::specs::JsonLines::columns_objects))]
 pub fn columns_objects(
     alloc: Global,
-    metadata: &Json,
+    metadata: &Metadata,
     schema: &Schema,
-    table: &Table,
 ) -> Result<Vec<u8>, AllocError>
-    ensures { IfOk result (λ text. text.items ≡ columns_objects (view metadata.now) schema.now table.now) }
+    ensures { IfOk result (λ text. text.items
+        ≡ columns_objects (view metadata.now.json) schema.now metadata.now.table) }
 {
     let mut lines = ObjectLines::new(alloc)?;
-    push_schema_objects(&mut lines, alloc, metadata, schema)?;
-    push_default(&mut lines, table.default_spec_id)?;
-    push_specs(&mut lines, table.specs.as_slice())?;
+    push_schema_objects(&mut lines, alloc, metadata.json(), schema)?;
+    push_default(&mut lines, metadata.table().default_spec_id)?;
+    push_specs(&mut lines, metadata.table().specs.as_slice())?;
     lines.into_text()
 }
 

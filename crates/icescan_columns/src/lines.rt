@@ -3,19 +3,18 @@
 ghost use Rattle.std.specs.Prelude.{◌≡◌, ◌++◌, IfOk, OnOk};
 ghost use Rattle.std.specs.List.{flat_map, list_any};
 ghost use Rattle.serde_json.specs.View.{view};
-ghost use Rattle.icescan_columns.specs.Texts.{answers_text, column_line, columns_text, compared_word, default_line};
+ghost use Rattle.icescan_columns.specs.Texts.{answers_text, column_line, columns_text, default_line};
 ghost use Rattle.icescan_columns.specs.Texts.{field_line, id_text, is_broken, kind_text, last_text, name_text};
 ghost use Rattle.icescan_columns.specs.Texts.{source_text};
 ghost use Rattle.icescan_columns.specs.Texts.{spec_text, transform_text, yes_or_no};
 ghost use Rattle.icescan_print.specs.TableTexts.{schema_line, spec_line};
 
 use crate::names::push_column;
-use crate::told::{Compared, ToldColumn, told_columns};
+use crate::told::{ToldColumn, told_columns};
 use ice_filter::Column as Names;
-use ice_meta::{PartitionField, Schema, Spec, Table};
+use ice_meta::{Metadata, PartitionField, Schema, Spec, Table};
 use icescan_forms::{push_int, push_number, push_path};
 use icescan_print::put_escaped;
-use serde_json::Value;
 use std::alloc::{AllocError, Global};
 
 /// Whether a name can't end a line as it is.
@@ -61,16 +60,6 @@ fn yes_or_no(truth: bool) -> &'static [u8]
     if truth { b"yes" } else { b"no" }
 }
 
-pub fn compared_word(compared: Compared) -> &'static [u8]
-    ensures { result.now ≡ compared_word compared }
-{
-    match compared {
-        Compared::InOrder => b"yes",
-        Compared::ForEquality => b"equality",
-        Compared::Never => b"no",
-    }
-}
-
 /// Puts a column's id and type last.
 #[tactic(auto, unfolding(crate::specs::Texts::kind_text))]
 fn push_kind(text: &mut Vec<u8>, told: &ToldColumn) -> Result<(), AllocError>
@@ -88,7 +77,7 @@ fn push_answers(text: &mut Vec<u8>, told: &ToldColumn) -> Result<(), AllocError>
     text.extend_from_slice(b" required ")?;
     text.extend_from_slice(yes_or_no(told.required))?;
     text.extend_from_slice(b" filter ")?;
-    text.extend_from_slice(compared_word(told.compared))
+    text.extend_from_slice(told.compared.word())
 }
 
 /// Puts the line of a column last.
@@ -208,21 +197,20 @@ fn push_default(text: &mut Vec<u8>, table: &Table) -> Result<(), AllocError>
     text.extend_from_slice(b"\n")
 }
 
-/// The text of a schema's columns and of a table's partition specs.
+/// The text of a schema's columns and of the partition specs that this metadata says.
 #[tactic(auto, unfolding(crate::specs::Texts::columns_text))]
 pub fn columns_lines(
     alloc: Global,
-    metadata: &Value,
+    metadata: &Metadata,
     schema: &Schema,
-    table: &Table,
 ) -> Result<Vec<u8>, AllocError>
-    ensures { IfOk result (λ text. text.items ≡ columns_text (view metadata.now) schema.now table.now) }
+    ensures { IfOk result (λ text. text.items ≡ columns_text (view metadata.now.json) schema.now metadata.now.table) }
 {
-    let told = told_columns(alloc, metadata, schema)?;
+    let told = told_columns(alloc, metadata.json(), schema)?;
     let mut text = Vec::new(alloc);
     push_schema(&mut text, schema)?;
     push_columns(&mut text, alloc, &told)?;
-    push_default(&mut text, table)?;
-    push_specs(&mut text, table.specs.as_slice())?;
+    push_default(&mut text, metadata.table())?;
+    push_specs(&mut text, metadata.table().specs.as_slice())?;
     Ok(text)
 }

@@ -3,6 +3,7 @@
 ghost use Rattle.std.specs.Prelude.{◌≡◌, IfOk, map};
 ghost use Rattle.serde_json.specs.View.{view};
 ghost use Rattle.icescan_columns.specs.JsonTypes.{seen};
+ghost use Rattle.icescan_columns.specs.Texts.{compared_word};
 ghost use Rattle.icescan_columns.specs.Told.{compared_type, how_compared, told_column, told_columns, type_word};
 
 use crate::json_types::{all_types, is_required, nested_word, schema_in, type_of};
@@ -24,6 +25,19 @@ pub enum Compared {
     ForEquality,
     /// By none.
     Never,
+}
+
+impl Compared {
+    /// The word that tells it.
+    pub fn word(self) -> &'static [u8]
+        ensures { result.now ≡ compared_word self }
+    {
+        match self {
+            Compared::InOrder => b"yes",
+            Compared::ForEquality => b"equality",
+            Compared::Never => b"no",
+        }
+    }
 }
 
 /// What is told of a column.
