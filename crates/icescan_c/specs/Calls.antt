@@ -13,6 +13,7 @@ use Rattle.icescan_c_commits.specs.Handed.{took}
 use Rattle.icescan_c_commits.specs.declared.handed.HandedCommit.{HandedCommit}
 use Rattle.icescan_c_explanations.specs.Handed.{took as took_to_explain}
 use Rattle.icescan_c_explanations.specs.declared.handed.HandedExplanation.{HandedExplanation}
+use Rattle.icescan_c_requests.specs.Handed.{next_of}
 use Rattle.icescan_c_requests.specs.Requests.{ReadsTexts}
 use Rattle.icescan_c_requests.specs.Texts.{IsJsonOfAsked}
 use Rattle.icescan_c.specs.States.{TakesOver, TakesRow, untaken}
@@ -129,9 +130,9 @@ ExplainsNextFile (Some path) bytes explanation ended after =
 
 abbrev pub HandsFile : List ℕ → Held → Result Unit Refusal → Held → Type 0
 HandsFile bytes (held.Change commit) ended after =
-    HandsNextFile (slice_get commit.wanted commit.handed) bytes commit ended after
+    HandsNextFile (next_of commit.files) bytes commit ended after
 HandsFile bytes (held.Explanation explanation) ended after =
-    ExplainsNextFile (slice_get explanation.wanted explanation.handed) bytes explanation ended after
+    ExplainsNextFile (next_of explanation.files) bytes explanation ended after
 HandsFile bytes other ended after = Refuses refusal.Kind other ended after
 
 -- ---- what they come to

@@ -10,6 +10,7 @@ use Rattle.icescan_json.specs.Types.{types_of}
 use Rattle.icescan_json.specs.Values.{type_at}
 use Rattle.icescan_json.specs.declared.types.SpecTypes.{SpecTypes}
 use Rattle.icescan_relaxed.specs.declared.requests.RelaxedRequest.{RelaxedRequest}
+use Rattle.icescan_c_requests.specs.Handed.{next_of}
 use Rattle.icescan_c_requests.specs.Reasons.{reason_in}
 use Rattle.icescan_c_requests.specs.Statuses.{status_of}
 use Rattle.icescan_c.specs.declared.held.Held.{Held}
@@ -99,8 +100,8 @@ at_place (Err refused) i = Err refused
 
 -- the path of the file that a commit or an explanation wants next
 abbrev pub next_in : Held → Result (List ℕ) Refusal
-next_in (held.Change commit) = or_past (slice_get commit.wanted commit.handed)
-next_in (held.Explanation explanation) = or_past (slice_get explanation.wanted explanation.handed)
+next_in (held.Change commit) = or_past (next_of commit.files)
+next_in (held.Explanation explanation) = or_past (next_of explanation.files)
 next_in other = Err refusal.Kind
 
 -- the path and the bytes of a file that a commit adds

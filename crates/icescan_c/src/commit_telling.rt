@@ -29,8 +29,8 @@ impl Held {
         ensures none { IfErr result (λ refused. next_in self.now ≡ Err refused) }
     {
         let next = match self {
-            Held::Change(commit) => commit.wanted(),
-            Held::Explanation(explanation) => explanation.wanted(),
+            Held::Change(commit) => commit.files.next(),
+            Held::Explanation(explanation) => explanation.files.next(),
             _ => return Err(Refusal::Kind),
         };
         match next {

@@ -314,14 +314,14 @@ impl Held {
         ensures { HandsFile bytes.now self.old result self.new }
     {
         match replace(self, Held::Nothing) {
-            Held::Change(commit) => match commit.wanted() {
+            Held::Change(commit) => match commit.files.next() {
                 Some(_) => self.hold(alloc, with_file(alloc, commit, bytes)),
                 None => {
                     self.set(Held::Change(commit));
                     Err(Refusal::PastEnd)
                 }
             },
-            Held::Explanation(explanation) => match explanation.wanted() {
+            Held::Explanation(explanation) => match explanation.files.next() {
                 Some(_) => self.hold(alloc, explained_with(alloc, explanation, bytes)),
                 None => {
                     self.set(Held::Explanation(explanation));

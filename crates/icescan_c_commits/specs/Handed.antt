@@ -1,7 +1,5 @@
 -- Commits to tables whose files are handed in: the list of the current snapshot, and then its manifests.
-use Rattle.std.specs.Prelude.{◌≡◌, ◌≢◌, ℕ, zero, suc, ◌+◌, List, [], ◌∷◌, ◌++◌, Option, Some, None, Result, Ok, Err}
-use Rattle.std.specs.Prelude.{slice_get}
-use Rattle.std.specs.FinMap.{empty, insert}
+use Rattle.std.specs.Prelude.{◌≡◌, ◌≢◌, ℕ, List, [], ◌∷◌, ◌++◌, Bool, true, false, Result, Ok, Err}
 use Rattle.contract_words.specs.Outcome.{◌>>=◌}
 use Rattle.ice_catalog_changes.specs.declared.change.Ids.{Ids}
 use Rattle.ice_catalog_versions.specs.Histories.{Step, opened, prepared_on}
@@ -18,6 +16,9 @@ use Rattle.icescan_text.specs.Reads.{as_run}
 use Rattle.icescan_text.specs.declared.change.ChangeKind.TheVariants as kind
 use Rattle.icescan_text.specs.declared.fault.RunFault.{RunFault}
 use Rattle.icescan_text.specs.declared.fault.RunFault.TheVariants as run
+use Rattle.icescan_c_requests.specs.Handed.{begins, none_of}
+use Rattle.icescan_c_requests.specs.Handed.{took as took_file}
+use Rattle.icescan_c_requests.specs.declared.handed.HandedFiles.{HandedFiles}
 use Rattle.icescan_c_commits.specs.Next.{AreOf}
 use Rattle.icescan_c_commits.specs.declared.files.CommitFiles.{CommitFiles}
 use Rattle.icescan_c_commits.specs.declared.handed.HandedCommit.{HandedCommit}
@@ -49,33 +50,21 @@ unfoldable pub asked : List ℕ → List ℕ → Ids → Result HandedCommit Run
 asked metadata text ids = do
   change ← as_run of_change (change_of kind.RowDelta text)
   wanted ← first_wanted metadata
-  Ok (record { metadata = metadata; change = change; ids = ids; wanted = wanted; handed = 0; kept = empty })
+  Ok (record { metadata = metadata; change = change; ids = ids; files = none_of wanted })
 
 -- the first file names the others
-abbrev pub with_named : ℕ → List (List ℕ) → List ℕ → List (List ℕ)
-with_named zero wanted bytes = wanted ++ manifests_in bytes
-with_named (suc n) wanted bytes = wanted
+abbrev pub with_named : Bool → HandedFiles → List ℕ → HandedFiles
+with_named true files bytes = record files { wanted = files.wanted ++ manifests_in bytes }
+with_named false files bytes = files
 
--- the file at this path was handed in
-abbrev pub took_at : Option (List ℕ) → HandedCommit → List ℕ → HandedCommit
-took_at None commit bytes = commit
-took_at (Some path) commit bytes = record {
-  metadata = commit.metadata;
-  change = commit.change;
-  ids = commit.ids;
-  wanted = with_named commit.handed commit.wanted bytes;
-  handed = commit.handed + 1;
-  kept = insert commit.kept path bytes;
-}
-
--- the next one was
+-- the next file was handed in
 unfoldable pub took : HandedCommit → List ℕ → HandedCommit
-took commit bytes = took_at (slice_get commit.wanted commit.handed) commit bytes
+took commit bytes = record commit { files = with_named (begins commit.files) (took_file commit.files bytes) bytes }
 
 -- the commit on what was handed in, or why it can't be made
 unfoldable pub prepared : HandedCommit → Result Step RunFault
 prepared commit = do
-  base ← as_run of_meta (opened (record { bytes = commit.metadata; world = commit.kept }))
+  base ← as_run of_meta (opened (record { bytes = commit.metadata; world = commit.files.kept }))
   as_run of_prepare (prepared_on base (record { change = commit.change; ids = commit.ids }))
 
 -- its files, or why there are none, unless memory ran out

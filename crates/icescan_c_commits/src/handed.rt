@@ -1,31 +1,28 @@
 //! Commits to tables whose files are handed in, one after the other, by who reads them.
 
-ghost use Rattle.std.specs.Prelude.{◌≡◌, ◌++◌, IfOk, Ok, OnOk, option_map, slice_get};
+ghost use Rattle.std.specs.Prelude.{◌≡◌, ◌++◌, IfOk, OnOk};
 ghost use Rattle.contract_words.specs.Outcome.{Gives};
 ghost use Rattle.icescan_c_commits.specs.Handed.{Commits, asked, first_wanted, manifests_in, prepared, took};
 
 use crate::files::CommitFiles;
 use contract_words::{Items, Text};
 use ice_catalog_changes::{Change, Ids};
-use ice_catalog_versions::{Prepared, Version, World, prepare_in_place};
+use ice_catalog_versions::{Prepared, Version, prepare_in_place};
 use ice_manifest_reading::{ListFault, read_list};
 use ice_meta::{Metadata, Target};
+use icescan_c_requests::HandedFiles;
 use icescan_text::{ChangeKind, RunFault, read_change};
 use std::alloc::{AllocError, Global};
 
-/// A commit that is asked for, and what was handed in of the table: the manifest list of its current snapshot, if there
+/// A commit that is asked for, and what is handed in of the table: the manifest list of its current snapshot, if there
 /// is one, and then the manifests that this names.
 #[derive(Drop)]
 pub struct HandedCommit {
     metadata: Items<u8>,
     change: Change,
     ids: Ids,
-    /// The paths of the files that are wanted, in the order in which they are handed in.
-    wanted: Items<Text>,
-    /// How many were handed in.
-    handed: usize,
-    /// Those that were.
-    kept: World,
+    /// What is handed in of the table.
+    pub files: HandedFiles,
 }
 
 /// The path of the manifest list of the current snapshot of the table whose metadata these are the bytes of, if there
@@ -75,17 +72,8 @@ impl HandedCommit {
             metadata: Items::from_vec(Vec::from_slice(alloc, metadata)?),
             change,
             ids,
-            wanted,
-            handed: 0,
-            kept: World::new(alloc),
+            files: HandedFiles::new(alloc, wanted),
         })
-    }
-
-    /// The path of the file that is to be handed in next; none where each was.
-    pub fn wanted(&self) -> Option<&Text>
-        ensures { option_map (λ path. path.now) result ≡ slice_get self.now.wanted self.now.handed }
-    {
-        self.wanted.as_slice().get(self.handed)
     }
 
     /// The commit with the next file, which has these bytes; itself where each was handed in.
@@ -97,24 +85,16 @@ impl HandedCommit {
             metadata,
             change,
             ids,
-            mut wanted,
-            mut handed,
-            mut kept,
+            mut files,
         } = self;
-        if let Some(path) = wanted.as_slice().get(handed) {
-            kept.put(path.as_str(), Vec::from_slice(alloc, bytes)?)?;
-            if handed == 0 {
-                push_manifests(alloc, &mut wanted, bytes)?;
-            }
-            handed += 1;
+        if files.take(alloc, bytes)? {
+            push_manifests(alloc, &mut files.wanted, bytes)?;
         }
         Ok(HandedCommit {
             metadata,
             change,
             ids,
-            wanted,
-            handed,
-            kept,
+            files,
         })
     }
 
@@ -127,12 +107,9 @@ impl HandedCommit {
             metadata,
             change,
             ids,
-            wanted,
-            handed: _,
-            kept,
+            files,
         } = self;
-        drop(wanted);
-        let base = Version::open(alloc, metadata.as_slice(), kept)?;
+        let base = Version::open(alloc, metadata.as_slice(), files.into_kept())?;
         drop(metadata);
         Ok(prepare_in_place(alloc, base, &change, ids)?)
     }

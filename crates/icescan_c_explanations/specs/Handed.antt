@@ -1,6 +1,6 @@
 -- Explanations of tables whose files are handed in: the list of the snapshot, and then the manifests that are wanted.
-use Rattle.std.specs.Prelude.{ℕ, zero, suc, ◌+◌, List, [], ◌∷◌, ◌++◌, Option, Some, None, Result, Ok, Err, slice_get}
-use Rattle.std.specs.FinMap.{empty, get, insert}
+use Rattle.std.specs.Prelude.{ℕ, List, [], ◌∷◌, ◌++◌, Bool, true, false, Result, Ok, Err}
+use Rattle.std.specs.FinMap.{get}
 use Rattle.contract_words.specs.Outcome.{◌>>=◌}
 use Rattle.icescan_explain.specs.Explanations.{explained}
 use Rattle.icescan_explain.specs.JsonLines.{explanation_objects}
@@ -9,6 +9,9 @@ use Rattle.icescan_requests.specs.Selections.{selected}
 use Rattle.icescan_requests.specs.declared.selected_rows.SelectedRows.{SelectedRows}
 use Rattle.icescan_text.specs.declared.fault.RunFault.{RunFault}
 use Rattle.icescan_text.specs.declared.request.Request.{Request}
+use Rattle.icescan_c_requests.specs.Handed.{begins, none_of}
+use Rattle.icescan_c_requests.specs.Handed.{took as took_file}
+use Rattle.icescan_c_requests.specs.declared.handed.HandedFiles.{HandedFiles}
 use Rattle.icescan_c_explanations.specs.declared.handed.HandedExplanation.{HandedExplanation}
 
 -- ---- what is wanted of a table
@@ -24,31 +27,21 @@ manifests_for (Err fault) = []
 unfoldable pub asked : List ℕ → Request → Result HandedExplanation RunFault
 asked metadata request = do
   selection ← selected metadata request
-  Ok (record { metadata = metadata; request = request; wanted = selection.list ∷ []; handed = 0; kept = empty })
+  Ok (record { metadata = metadata; request = request; files = none_of (selection.list ∷ []) })
 
 -- the first file names the others
-abbrev pub with_named : ℕ → List (List ℕ) → Result SelectedRows RunFault → List (List ℕ)
-with_named zero wanted found = wanted ++ manifests_for found
-with_named (suc n) wanted found = wanted
-
--- the file at this path was handed in
-abbrev pub took_at : Option (List ℕ) → HandedExplanation → List ℕ → HandedExplanation
-took_at None x bytes = x
-took_at (Some path) x bytes = record {
-  metadata = x.metadata;
-  request = x.request;
-  wanted = with_named x.handed x.wanted
-      (selected_rows (λ p. get (insert x.kept path bytes) p) x.metadata x.request);
-  handed = x.handed + 1;
-  kept = insert x.kept path bytes;
+abbrev pub with_named : Bool → HandedFiles → List ℕ → Request → HandedFiles
+with_named true files metadata request = record files {
+  wanted = files.wanted ++ manifests_for (selected_rows (λ path. get files.kept path) metadata request);
 }
+with_named false files metadata request = files
 
--- the next one was
+-- the next file was handed in
 unfoldable pub took : HandedExplanation → List ℕ → HandedExplanation
-took x bytes = took_at (slice_get x.wanted x.handed) x bytes
+took x bytes = record x { files = with_named (begins x.files) (took_file x.files bytes) x.metadata x.request }
 
 -- the explanation on what was handed in, as lines of JSON, or why there is none
 unfoldable pub told_in : HandedExplanation → Result (List ℕ) RunFault
 told_in x = do
-  explanation ← explained (λ path. get x.kept path) x.metadata x.request
+  explanation ← explained (λ path. get x.files.kept path) x.metadata x.request
   Ok (explanation_objects explanation)

@@ -1,6 +1,6 @@
 //! Explanations of tables whose files are handed in, one after the other, by who reads them.
 
-ghost use Rattle.std.specs.Prelude.{◌≡◌, ◌≢◌, ◌++◌, IfOk, OnOk, option_map, slice_get};
+ghost use Rattle.std.specs.Prelude.{◌≡◌, ◌≢◌, ◌++◌, IfOk, OnOk};
 ghost use Rattle.std.specs.FinMap.{get};
 ghost use Rattle.contract_words.specs.Outcome.{Gives};
 ghost use Rattle.icescan_c_explanations.specs.Handed.{asked, manifests_for, told_in, took};
@@ -9,25 +9,21 @@ ghost use Rattle.icescan_requests.specs.Plans.{manifests, selected_rows};
 use contract_words::{Items, Text};
 use ice_catalog_versions::World;
 use ice_state::ScanFault;
-use icescan_c_requests::{as_memory, copy_request};
+use icescan_c_requests::{HandedFiles, as_memory, copy_request};
 use icescan_explain::run_explain;
 use icescan_forms::Format;
 use icescan_requests::{SelectedRows, select, select_rows};
 use icescan_text::{Request, RunFault};
 use std::alloc::{AllocError, Global};
 
-/// An explanation that is asked for, and what was handed in of the table: the manifest list of the snapshot, and then
+/// An explanation that is asked for, and what is handed in of the table: the manifest list of the snapshot, and then
 /// the manifests that the scan of it wants.
 #[derive(Drop)]
 pub struct HandedExplanation {
     metadata: Items<u8>,
     request: Request,
-    /// The paths of the files that are wanted, in the order in which they are handed in.
-    wanted: Items<Text>,
-    /// How many were handed in.
-    handed: usize,
-    /// Those that were.
-    kept: World,
+    /// What is handed in of the table.
+    pub files: HandedFiles,
 }
 
 /// Puts the paths of the manifests last that the scan of these rows wants; none where there is no scan of them.
@@ -99,17 +95,8 @@ impl HandedExplanation {
         Ok(HandedExplanation {
             metadata: Items::from_vec(Vec::from_slice(alloc, metadata)?),
             request: copy_request(alloc, request)?,
-            wanted,
-            handed: 0,
-            kept: World::new(alloc),
+            files: HandedFiles::new(alloc, wanted),
         })
-    }
-
-    /// The path of the file that is to be handed in next; none where each was.
-    pub fn wanted(&self) -> Option<&Text>
-        ensures { option_map (λ path. path.now) result ≡ slice_get self.now.wanted self.now.handed }
-    {
-        self.wanted.as_slice().get(self.handed)
     }
 
     /// The explanation with the next file, which has these bytes; itself where each was handed in.
@@ -120,23 +107,21 @@ impl HandedExplanation {
         let HandedExplanation {
             metadata,
             request,
-            mut wanted,
-            mut handed,
-            mut kept,
+            mut files,
         } = self;
-        if let Some(path) = wanted.as_slice().get(handed) {
-            kept.put(path.as_str(), Vec::from_slice(alloc, bytes)?)?;
-            if handed == 0 {
-                push_manifests(alloc, &mut wanted, &kept, metadata.as_slice(), &request)?;
-            }
-            handed += 1;
+        if files.take(alloc, bytes)? {
+            push_manifests(
+                alloc,
+                &mut files.wanted,
+                &files.kept,
+                metadata.as_slice(),
+                &request,
+            )?;
         }
         Ok(HandedExplanation {
             metadata,
             request,
-            wanted,
-            handed,
-            kept,
+            files,
         })
     }
 
@@ -150,15 +135,12 @@ impl HandedExplanation {
         let HandedExplanation {
             metadata,
             request,
-            wanted,
-            handed: _,
-            kept,
+            files,
         } = self;
-        drop(wanted);
         let mut text = Vec::new(alloc);
         match run_explain(
             alloc,
-            &kept,
+            &files.kept,
             metadata.as_slice(),
             &request,
             Format::Json,

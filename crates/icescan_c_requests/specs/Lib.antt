@@ -1,3 +1,4 @@
+pub mod Handed
 pub mod Hints
 pub mod Reasons
 pub mod Requests

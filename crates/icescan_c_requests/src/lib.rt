@@ -1,9 +1,10 @@
-//! What a program in C asks of a table, and how its calls end.
+//! What a program in C asks of a table and hands in of it, and how its calls end.
 #![tactic(auto)]
 
 mod asking;
 mod copies;
 mod endings;
+mod handed;
 mod hints;
 mod lines;
 mod reason;
@@ -12,6 +13,7 @@ mod texts;
 pub use asking::{request_by_id, request_by_name};
 pub use copies::copy_request;
 pub use endings::{Refusal, status};
+pub use handed::HandedFiles;
 pub use hints::filter_hint;
 pub use lines::fault_line;
 pub use reason::Reason;

@@ -18,8 +18,8 @@ returns-clause-drilled g t c =
     omega (arith, c.in_ok-right.ensures.len) in (
       omega (arith, len, left.0.0, right.0.0, c.in_ok-both.ensures.count),
       counted_by_both c.args.seats.items c.split_off.new.self.items c.in_ok-right.right.items _ _ _ _ _ _ _ _
-      c.in_ok-right.ensures.items c.in_ok-right.ensures.tail len left.0.1 right.0.1 c.in_ok-both.ensures.commits,
+          c.in_ok-right.ensures.items c.in_ok-right.ensures.tail len left.0.1 right.0.1 c.in_ok-both.ensures.commits,
       saw_both c.args.first (c.args.first + c.len-half.result / 2) (vec_len c.split_off.new.self)
-      (vec_len c.in_ok-right.right)
-      (vec_len c.args.seats) c.args.drill.commits next len left.0.2 right.0.2,
+          (vec_len c.in_ok-right.right)
+          (vec_len c.args.seats) c.args.drill.commits next len left.0.2 right.0.2,
     )

@@ -12,7 +12,7 @@ use Rattle.icescan_c_explanations.proofs.handed.HandedExplanation.into_json.Goal
 pub returns-in-Ok : goal.returns-in-Ok
 unfolding told_in
 returns-in-Ok c =
-    let world : World = λ path. get c.args.self.kept path in
+    let world : World = λ path. get c.args.self.files.kept path in
     let wrote = c.in-Ok.ensures.written world refl in
     let all = wrote.2 in
     let text : c.run_explain.new.output.items ≡ c.new-text.result.items ++ explanation_objects wrote.0 = cc in
@@ -22,7 +22,7 @@ returns-in-Ok c =
 pub returns : goal.returns
 unfolding told_in
 returns c memory =
-    let world : World = λ path. get c.args.self.kept path in
+    let world : World = λ path. get c.args.self.files.kept path in
     let none = ends (explained world c.as_slice.result.now c.args.self.request) _ _ c.in-Err.fault
     (c.in-Err.ensures.refused world refl) (λ path is. c.in-Err.ensures.refusal.device path (ap Err is))
     (λ is. memory (c.as_memory.ensures ∙ ap as_memory is)) (λ is. memory (c.as_memory.ensures ∙ ap as_memory is)) in
