@@ -4,9 +4,10 @@ use Rattle.std.specs.Prelude.{Result, Ok, Err, IfOk, IfErr}
 use Rattle.contract_words.specs.Outcome.{Gives}
 use Rattle.icescan_text.specs.declared.fault.RunFault.{RunFault}
 use Rattle.icescan_text.specs.declared.fault.RunFault.TheVariants as run
-use Rattle.std.proofs.Common.{◌≡◌, ℕ, List, [], ◌++◌, Option, Some, None, refl, sym, ◌∙◌, ap}
+use Rattle.std.proofs.Common.{◌≡◌, ℕ, ◌+◌, List, [], ◌++◌, Option, Some, None, append_assoc, drop, take, refl, sym, ◌∙◌, ap}
+use Rattle.std.proofs.Math.Seq.{take-add}
 use Rattle.std.proofs.lemmas.List.{append-nil}
-use Rattle.std.specs.Io.KnownBytes.{Consumes, IsAtEnd}
+use Rattle.std.specs.Io.KnownBytes.{Consumes, IsAtEnd, Keeps}
 use Rattle.icescan_files.specs.Bundles.{File, IsInput, NoBundle, bundle_of}
 
 -- there is a text that it had left
@@ -52,3 +53,23 @@ pub bundle_refused : (left : Option (List ℕ)) (text : List ℕ) (read : Result
     → IfErr r (λ e. (text : List ℕ) × IsInput left text × NoBundle text e)
 bundle_refused left text read (Ok b) i e h = tt
 bundle_refused left text read (Err f) i e h = (text, i, refused_text text f (λ m. e ∙ h m))
+
+-- what was read, and n bytes behind it
+pub read_grows : (a b c : Option (List ℕ)) (xs ys : List ℕ) (f n : ℕ) → take f ys ≡ take f xs
+    → Consumes a b (take f xs) → Consumes b c (take n (drop f ys)) → Consumes a c (take (f + n) ys)
+read_grows None b c xs ys f n front before read = tt
+read_grows (Some x) None c xs ys f n front before read = absurd before
+read_grows (Some x) (Some y) None xs ys f n front before read = absurd read
+read_grows (Some x) (Some y) (Some z) xs ys f n front before read =
+    let more = take n (drop f ys) in
+    before ∙ ap (λ l. l ++ y) (sym front) ∙ ap (λ l. take f ys ++ l) read ∙ sym (append_assoc (take f ys) more z)
+    ∙ ap (λ l. l ++ z) (sym (take-add f n ys))
+
+-- what was read, where nothing more is
+pub read_stays : (a b c : Option (List ℕ)) (xs ys : List ℕ) (f : ℕ) → take f ys ≡ take f xs → Consumes a b (take f xs)
+    → Keeps b c → Consumes a c (take f ys)
+read_stays None b c xs ys f front before kept = tt
+read_stays (Some x) None c xs ys f front before kept = absurd before
+read_stays (Some x) (Some y) None xs ys f front before kept = absurd kept
+read_stays (Some x) (Some y) (Some z) xs ys f front before kept =
+    before ∙ ap (λ l. l ++ y) (sym front) ∙ ap (λ l. take f ys ++ l) (sym kept)

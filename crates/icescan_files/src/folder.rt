@@ -192,6 +192,6 @@ impl<H: std::rt::Files> Files for Folder<'_, H> {
             Err(_) => return Err(ReadFault::Memory),
         }
         let mut file = open_regular(self.host, name.as_str())?;
-        read_all_into(alloc, &mut file, MOST_READS, bytes)
+        read_all_into(&mut file, MOST_READS, bytes)
     }
 }
