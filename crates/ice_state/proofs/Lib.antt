@@ -17,7 +17,6 @@ pub mod KeyedPaths
 pub mod Keys
 pub mod Lent
 pub mod LinesAt
-pub mod MovedPaths
 pub mod Named
 pub mod NeighbourLines
 pub mod OfSpecs
@@ -45,6 +44,7 @@ pub mod SlotContents
 pub mod Snapshots
 pub mod SortedAlike
 pub mod Specs
+pub mod Spelled
 pub mod Stretches
 pub mod Unfiltered
 pub mod OneSegment

@@ -116,6 +116,7 @@ fn paths_of<'a>(
         placed.push(Placed {
             key: 0,
             path: entries.path(numbers[i]),
+            key_end: 0,
             place,
         })?;
     }
@@ -142,6 +143,7 @@ fn paths_of_files<'a>(
         placed.push(Placed {
             key: 0,
             path: entries.path(files[i]),
+            key_end: 0,
             place,
         })?;
     }
@@ -179,6 +181,7 @@ fn first_paths<'a>(
         placed.push(Placed {
             key: 0,
             path: first_path(entries, &slots[i]),
+            key_end: 0,
             place,
         })?;
     }
