@@ -1,4 +1,4 @@
-use Rattle.std.proofs.Common.{◌≡◌, [], IfSome, Option, arith, subst, sym}
+use Rattle.std.proofs.Common.{◌≡◌, [], IfSome, Option, arith, subst}
 use Rattle.std.proofs.lemmas.Grind.{common_steps}
 use Rattle.ice_state.specs.declared.kept.deletes.KeptDeletes.{KeptDeletes}
 use Rattle.ice_state.specs.KeptDeletes.{AreDeletesOf}

@@ -1,7 +1,6 @@
-use Rattle.std.proofs.Common.{◌≡◌, [], Option, IfSome, ℕ, arith, subst, sym}
+use Rattle.std.proofs.Common.{Option, IfSome, ℕ, subst, sym}
 use Rattle.std.specs.List.{range_with_len}
 use Rattle.std.specs.List.Sorted.{IsPermutation}
-use Rattle.std.proofs.lemmas.Grind.{common_steps}
 use Rattle.ice_state.specs.declared.finish.by_kind.FilesByKind.{FilesByKind}
 use Rattle.ice_state.specs.declared.kept.deletes.KeptDeletes.{KeptDeletes}
 use Rattle.ice_state.specs.KeptDeletes.{AreDeletesOf}

@@ -1,7 +1,6 @@
-use Rattle.std.proofs.Common.{◌++◌, IfSome, List, Option, subst, sym}
+use Rattle.std.proofs.Common.{◌++◌, IfSome, List, Option, subst}
 use Rattle.ice_manifest_reading.specs.declared.entry.Entry.{Entry}
 use Rattle.ice_state.specs.declared.kept.deletes.KeptDeletes.{KeptDeletes}
-use Rattle.ice_state.specs.declared.kept.segments.FileNumber.{FileNumber}
 use Rattle.ice_state.specs.KeptDeletes.{AreDeletes, AreDeletesOf}
 use Rattle.ice_state.specs.Outcomes.{kept_in}
 use Rattle.ice_state.specs.Parts.{gains}

@@ -1,4 +1,4 @@
-use Rattle.std.proofs.Common.{◌≡◌, ◌<◌, ◌++◌, Some, arith, length, subst, sym}
+use Rattle.std.proofs.Common.{◌<◌, ◌++◌, Some, arith, length, subst, sym}
 use Rattle.std.specs.List.Sorted.{IsPermutation}
 use Rattle.ice_state.specs.Contents.{Content}
 use Rattle.ice_state.specs.Outcomes.{entries_in, kept_in}

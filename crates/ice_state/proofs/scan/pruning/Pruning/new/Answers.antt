@@ -1,5 +1,4 @@
-use Rattle.std.proofs.Common.{List, Option, sym, subst}
-use Rattle.ice_project.specs.declared.part_filter.PartFilter.{PartFilter}
+use Rattle.std.proofs.Common.{sym, subst}
 use Rattle.ice_state.specs.Parts.{AreProjected}
 use Rattle.ice_state.proofs.Held.{none_projected}
 use Rattle.ice_state.proofs.Specs.{in_order}
