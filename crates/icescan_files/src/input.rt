@@ -27,8 +27,8 @@ pub(crate) fn room(alloc: Global) -> Result<Vec<u8>, AllocError>
     vec![in alloc; 0; MOST_AT_ONCE]
 }
 
-/// Makes room for a read behind the bytes that were read, where there is none: twice as much with each read, up to what
-/// one gives. What stands there from before is room too, so that no byte is written twice.
+/// Makes room for a read behind the bytes that were read, where there is none: as much again, up to what one read gives.
+/// What stands there from an earlier file is room too, and is not cleared.
 fn make_room(bytes: &mut Vec<u8>, filled: usize) -> Result<(), AllocError>
     requires { filled ≤ vec_len bytes.old }
     ensures front { take filled bytes.new.items ≡ take filled bytes.old.items }
@@ -41,7 +41,7 @@ fn make_room(bytes: &mut Vec<u8>, filled: usize) -> Result<(), AllocError>
     bytes.extend_from_slice(&ZEROS[..filled.clamp(LEAST_ROOM, MOST_AT_ONCE)])
 }
 
-/// Reads once, to a place on.
+/// Reads once into the bytes from a place on, and says how many it gave.
 fn read_at<R: Read>(reader: &mut R, bytes: &mut [u8], at: usize) -> io::Result<usize>
     requires { at < length bytes.old }
     ensures front { take at bytes.new ≡ take at bytes.old }
@@ -57,7 +57,7 @@ fn read_at<R: Read>(reader: &mut R, bytes: &mut [u8], at: usize) -> io::Result<u
     reader.read(&mut bytes[at..at + most])
 }
 
-/// Reads once behind the bytes that were read.
+/// Reads once behind the bytes that were read before, and says how many it gave.
 fn read_behind<R: Read>(reader: &mut R, bytes: &mut Vec<u8>, filled: usize) -> io::Result<usize>
     requires { filled < vec_len bytes.old }
     ensures front { take filled bytes.new.items ≡ take filled bytes.old.items }
@@ -73,7 +73,8 @@ fn read_behind<R: Read>(reader: &mut R, bytes: &mut Vec<u8>, filled: usize) -> i
 }
 
 /// Puts all that a reader has left in place of what `bytes` has. At most `turns` reads are made: where the last of them
-/// does not see the end, or a read fails, it is `Device`. A read that a signal interrupted is made again, and counts.
+/// does not see the end, or a read fails, it is `Device`. A read that a signal interrupted is made again, and counts. A
+/// refusal leaves any bytes.
 pub fn read_all_into<R: Read>(
     reader: &mut R,
     turns: u64,
