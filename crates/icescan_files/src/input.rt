@@ -27,7 +27,7 @@ pub(crate) fn room(alloc: Global) -> Result<Vec<u8>, AllocError>
     vec![in alloc; 0; MOST_AT_ONCE]
 }
 
-/// Makes room for a read behind the bytes that were read, where there is none: as much again, up to what one read gives.
+/// Makes room for a read behind the bytes that were read, where there is none: as much again, up to what a read gives.
 /// What stands there from an earlier file is room too, and is not cleared.
 fn make_room(bytes: &mut Vec<u8>, filled: usize) -> Result<(), AllocError>
     requires { filled ≤ vec_len bytes.old }
