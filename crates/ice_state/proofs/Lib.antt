@@ -28,6 +28,7 @@ pub mod Permuted
 pub mod PlaceTables
 pub mod Planned
 pub mod Planning
+pub mod Positions
 pub mod Pruned
 pub mod Ranked
 pub mod RankedIndex

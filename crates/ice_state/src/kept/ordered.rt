@@ -1,20 +1,24 @@
 //! The kept entries of a manifest, by position and by path.
 
-ghost use Rattle.std.specs.Prelude.{◌≡◌, [], IfOk, IfSome, IsTrue, List, length, map};
+ghost use Rattle.std.specs.Prelude.{◌≡◌, ◌<◌, [], All, IfOk, IfSome, IsTrue, List, length, map, slice_index_or};
 ghost use Rattle.std.specs.List.{range_with_len};
 ghost use Rattle.std.specs.List.Sorted.{IsPermutation};
-ghost use Rattle.ice_state_entries.specs.Kept.{AreKept, entries_at};
+ghost use Rattle.ice_state_entries.specs.Kept.{AreKept, Kept, entries_at};
+ghost use Rattle.ice_state_entries.specs.declared.entries.EntryNumber.TheVariants.{Record};
 ghost use Rattle.ice_manifest_reading.specs.declared.entry.Entry.{Entry};
+ghost use Rattle.ice_state.specs.Lines.{AreWithin, entries_at as entries_at_places};
 ghost use Rattle.ice_state.specs.Orders.{AreOrdered, IsOrder};
 ghost use Rattle.ice_state.specs.Outcomes.{by_path, twice};
 ghost use Rattle.ice_state.specs.Placed.{AreEachPlaced, ArePlaced, entries_placed, place_of};
-ghost use Rattle.ice_state.specs.Segments.{AreKept as AreKeptFiles, entries_at as entries_of};
+ghost use Rattle.ice_state.specs.Segments.{AreKept as AreKeptFiles, entries_at as entries_of, Keeps, segment_at};
 ghost use Rattle.ice_state.specs.Slots.{HasNumbers, HaveNumbers};
 
+use crate::finish::ranks::ranks;
 use crate::kept::segments::{FileNumber, Segments};
 use crate::kept::sorting::{Placed, sort_by_path};
 use crate::kept::taken::Taken;
 use contract_words::Items;
+use ice_manifest_reading::EntryView;
 use ice_state_entries::{Entries, EntryNumber};
 use std::alloc::{AllocError, Global};
 
@@ -50,6 +54,99 @@ impl Ordered {
             rise,
         })
     }
+
+    /// Puts entries of a manifest to a segment in the order of their paths: so they lie there as plans go through them.
+    pub fn of_views(
+        alloc: Global,
+        entries: &mut Segments,
+        segment: u32,
+        views: &[EntryView<'_>],
+    ) -> Result<Ordered, AllocError>
+        requires there { segment < length entries.old }
+        ensures keeps { Keeps entries.old entries.new }
+        ensures there { segment < length entries.new }
+        ensures segment { IfOk result (λ ordered. ordered.segment ≡ segment) }
+        ensures same { IfOk result (λ ordered.
+            entries_at (segment_at entries.new segment) ordered.numbers ≡ views.now) }
+        ensures ordered { IfOk result (AreOrdered (segment_at entries.new segment)) }
+    {
+        let SortedPlaces { order, rise } = places_of_views(alloc, views)?;
+        let by_path = add_in_order(alloc, entries, segment, views, order.as_slice())?;
+        let numbers = by_position(alloc, &by_path, order.as_slice())?;
+        Ok(Ordered {
+            segment,
+            numbers: Items::from_vec(numbers),
+            order,
+            rise,
+        })
+    }
+}
+
+/// Puts the entries at places to a segment, as these come. A refusal, for want of memory, forgets none that was kept.
+fn add_in_order(
+    alloc: Global,
+    entries: &mut Segments,
+    segment: u32,
+    views: &[EntryView<'_>],
+    order: &[u32],
+) -> Result<Vec<EntryNumber>, AllocError>
+    requires there { segment < length entries.old }
+    requires within { AreWithin (length views.now) order.now }
+    ensures there { segment < length entries.new }
+    ensures keeps { Keeps entries.old entries.new }
+    ensures kept { IfOk result (λ numbers. AreKept (segment_at entries.new segment) numbers.items) }
+    ensures same { IfOk result (λ numbers. entries_at (segment_at entries.new segment) numbers.items
+        ≡ entries_at_places views.now order.now) }
+{
+    let mut numbers = Vec::with_capacity(alloc, order.len())?;
+    'order: for place in order {
+        numbers.push(entries.add(segment, &views[*place as usize].lent())?)?;
+    }
+    Ok(numbers)
+}
+
+/// The numbers of entries in the order of their positions, by those in the order of their paths.
+fn by_position(
+    alloc: Global,
+    by_path: &[EntryNumber],
+    order: &[u32],
+) -> Result<Vec<EntryNumber>, AllocError>
+    requires many { length by_path.now ≡ length order.now }
+    requires all { IsPermutation (range_with_len 0 (length order.now)) order.now }
+    requires within { AreWithin (length order.now) order.now }
+    ensures kept { (kept : Kept) → AreKept kept by_path.now → IfOk result (λ numbers. AreKept kept numbers.items) }
+    ensures same { (kept : Kept) (entries : List Entry) → length entries ≡ length order.now →
+        entries_at kept by_path.now ≡ entries_at_places entries order.now →
+        IfOk result (λ numbers. entries_at kept numbers.items ≡ entries) }
+{
+    let ranks = ranks(alloc, order)?;
+    numbers_at(alloc, by_path, &ranks)
+}
+
+/// The numbers at places.
+fn numbers_at(
+    alloc: Global,
+    numbers: &[EntryNumber],
+    places: &[u32],
+) -> Result<Vec<EntryNumber>, AllocError>
+    requires { All (λ p. p < length numbers.now) places.now }
+    ensures { IfOk result (λ found. found.items
+        ≡ map (λ p. slice_index_or numbers.now p (Record 0)) places.now) }
+{
+    let mut found = Vec::with_capacity(alloc, places.len())?;
+    'places: for place in places {
+        found.push(numbers[*place as usize])?;
+    }
+    Ok(found)
+}
+
+/// The places of entries in the order of their paths, and whether these rise.
+fn places_of_views(alloc: Global, views: &[EntryView<'_>]) -> Result<SortedPlaces, AllocError>
+    ensures order { IfOk result (λ places. IsOrder views.now places.order) }
+    ensures once { IfOk result (λ places. IsTrue places.rise → twice (by_path views.now) ≡ []) }
+{
+    let placed = paths_of_views(alloc, views)?;
+    sorted_places(alloc, placed)
 }
 
 /// The places of entries in the order of their paths, and whether these rise. More entries than can be numbered count
@@ -116,6 +213,30 @@ fn paths_of<'a>(
         placed.push(Placed {
             key: 0,
             path: entries.path(numbers[i]),
+            key_end: 0,
+            place,
+        })?;
+    }
+    Ok(placed)
+}
+
+/// The paths of entries that a manifest lends, each beside its place.
+fn paths_of_views<'a>(
+    alloc: Global,
+    views: &'a [EntryView<'_>],
+) -> Result<Vec<Placed<'a>>, AllocError>
+    ensures placed { IfOk result (λ placed. ArePlaced views.now placed.items) }
+    ensures places { IfOk result (λ placed. map place_of placed.items ≡ range_with_len 0 (length views.now)) }
+    ensures all { IfOk result (λ placed. entries_placed views.now placed.items ≡ views.now) }
+{
+    let mut placed = Vec::with_capacity(alloc, views.len())?;
+    'views: for i in 0..views.len() {
+        let Ok(place) = u32::try_from(i) else {
+            return Err(AllocError);
+        };
+        placed.push(Placed {
+            key: 0,
+            path: views[i].lent().path,
             key_end: 0,
             place,
         })?;

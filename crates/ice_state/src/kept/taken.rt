@@ -16,7 +16,6 @@ use crate::scan::pruning::SpecFilter;
 use avro_file::KnownSchema;
 use ice_manifest_reading::{Asked, ManifestFault, Row, Tell, read_after};
 use std::alloc::{AllocError, Global};
-use std::mem;
 
 /// Few entries take fewer bytes in a manifest: so there is room for most before they are read.
 const ENTRY_BYTES: usize = 32;
@@ -36,8 +35,8 @@ pub struct TakenTold<T> {
 }
 
 /// What a row's manifest with these bytes gives, read by the filter through its spec, and what is told of its live
-/// entries. Its kept entries are put to the last segment as they are read. `last` is the schema of the manifest that was
-/// taken before.
+/// entries. Its kept entries are put to the last segment once all are read. `last` is the schema of the manifest that
+/// was taken before.
 pub fn take_manifest<T: Tell>(
     alloc: Global,
     entries: &mut Segments,
@@ -54,9 +53,7 @@ pub fn take_manifest<T: Tell>(
         ≡ told_of (T.told tell.now) (live_of row.now filter.now.spec bytes.now)) }
     ensures memory { IfOk result (λ both. RanOut both.told → ⊥) }
 {
-    let segment = entries.begin(alloc, bytes.len() / ENTRY_BYTES)?;
-    let segments = mem::replace(entries, Segments::new(alloc));
-    let mut gathering = Gathering::new(alloc, segments, segment);
+    let mut gathering = Gathering::new(alloc);
     let asked = Asked { keep: filter, tell };
     let told = read_after(
         alloc,
@@ -67,13 +64,15 @@ pub fn take_manifest<T: Tell>(
         &mut gathering,
         last,
     );
-    let (segments, numbers) = gathering.into_parts();
-    *entries = segments;
     match told {
-        Ok(told) => Ok(TakenTold {
-            taken: Taken::Good(Ordered::new(alloc, entries.segment(segment), segment, numbers)?),
-            told: Ok(told),
-        }),
+        Ok(told) => {
+            let segment = entries.begin(alloc, bytes.len() / ENTRY_BYTES)?;
+            let ordered = Ordered::of_views(alloc, entries, segment, gathering.views())?;
+            Ok(TakenTold {
+                taken: Taken::Good(ordered),
+                told: Ok(told),
+            })
+        }
         Err(ManifestFault::Memory) => Err(AllocError),
         Err(fault) => Ok(TakenTold {
             taken: Taken::Bad(fault.copy(alloc)?),
