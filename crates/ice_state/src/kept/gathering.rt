@@ -1,6 +1,6 @@
 //! The kept entries of a manifest, as they are read.
 
-ghost use Rattle.std.specs.Prelude.{◌≡◌, []};
+ghost use Rattle.std.specs.Prelude.{◌≡◌, [], IfOk};
 
 use ice_manifest_reading::{EntryView, Gather};
 use std::alloc::{AllocError, Global};
@@ -22,13 +22,13 @@ impl<'d> Model for Gathering<'d> {
 }
 
 impl<'d> Gathering<'d> {
-    /// None yet.
-    pub(crate) fn new(alloc: Global) -> Gathering<'d>
-        ensures { result ≡ [] }
+    /// None yet, with room for so many.
+    pub(crate) fn with_capacity(alloc: Global, entries: usize) -> Result<Gathering<'d>, AllocError>
+        ensures { IfOk result (λ gathering. gathering ≡ []) }
     {
-        Gathering {
-            views: Vec::new(alloc),
-        }
+        Ok(Gathering {
+            views: Vec::with_capacity(alloc, entries)?,
+        })
     }
 
     /// The entries.

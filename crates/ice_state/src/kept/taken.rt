@@ -20,6 +20,13 @@ use std::alloc::{AllocError, Global};
 /// Few entries take fewer bytes in a manifest: so there is room for most before they are read.
 const ENTRY_BYTES: usize = 32;
 
+/// How many live entries a row counts, and no more than its manifest has bytes for.
+fn expected(row: &Row, bytes: &[u8]) -> usize {
+    let added = row.counts.added_files.unwrap_or(0).max(0) as usize;
+    let existing = row.counts.existing_files.unwrap_or(0).max(0) as usize;
+    added.saturating_add(existing).min(bytes.len() / ENTRY_BYTES)
+}
+
 /// What a manifest gave: its kept entries, or why it can't be read.
 #[derive(Debug, Drop)]
 pub enum Taken {
@@ -53,7 +60,7 @@ pub fn take_manifest<T: Tell>(
         ≡ told_of (T.told tell.now) (live_of row.now filter.now.spec bytes.now)) }
     ensures memory { IfOk result (λ both. RanOut both.told → ⊥) }
 {
-    let mut gathering = Gathering::new(alloc);
+    let mut gathering = Gathering::with_capacity(alloc, expected(row, bytes))?;
     let asked = Asked { keep: filter, tell };
     let told = read_after(
         alloc,
