@@ -279,6 +279,41 @@ module _ (kept : Segmented) (xs : List Entry) (d : KeptDeletes) where
           index = are.index.index;
         })
 
+-- where no row has delete files, none that is gained has
+no_front : {X : Type 0} (xs ys : List X) → xs ++ ys ≡ [] → (xs ≡ []) × (ys ≡ [])
+no_front [] ys none = (refl, none)
+no_front (x ∷ xs) ys none = absurd cc
+
+none_gained : (cs ds : Content) → filter holds_deletes (kept_in ds) ≡ []
+    → filter holds_deletes (kept_in (gains cs ds)) ≡ []
+none_gained [] ds none = refl
+none_gained (c ∷ cs) [] none = refl
+none_gained (Some r ∷ cs) (d ∷ ds) none =
+    none_gained cs ds (no_front (filter holds_deletes (entries_in d)) (filter holds_deletes (kept_in ds))
+    (sym (filter-append holds_deletes (entries_in d) (kept_in ds)) ∙ none)).1
+none_gained (None ∷ cs) (None ∷ ds) none = none_gained cs ds none
+none_gained (None ∷ cs) (Some q ∷ ds) none =
+    let given = entries_in (Some q) in
+    let parts = no_front (filter holds_deletes given) (filter holds_deletes (kept_in ds))
+    (sym (filter-append holds_deletes given (kept_in ds)) ∙ none) in
+    filter-append holds_deletes given (kept_in (gains cs ds))
+    ∙ ap (λ (zs : List Entry). zs ++ filter holds_deletes (kept_in (gains cs ds))) parts.0
+    ∙ none_gained cs ds parts.1
+
+pub if_none_gained : (kept : Segmented) (cs ds : Content) (d : Option KeptDeletes)
+    → IfSome d (λ e. (e.indexed.files.items ≡ []) × (e.waiting.items ≡ [])) → IfSome d (AreDeletesOf kept (kept_in ds))
+    → IfSome d (AreDeletesOf kept (kept_in (gains cs ds)))
+if_none_gained kept cs ds None none are = tt
+if_none_gained kept cs ds (Some d) none are =
+    let is = index_of_all kept (kept_in ds) d none.1 are in
+    let P : List FileNumber → Type 0 = λ ns. IsPermutation (filter holds_deletes (kept_in ds)) (entries_at kept ns) in
+    let lacks = none_gained cs ds (no_more (filter holds_deletes (kept_in ds)) (subst P none.0 is.all)) in
+    deletes_of_index kept (kept_in (gains cs ds)) d none.1 (record {
+      files = is.files;
+      all = rw (lacks, none.0) (IsPermutation-refl []);
+      index = is.index;
+    })
+
 -- further files that wait
 pub deletes_with : (kept : Segmented) (xs ys : List Entry) (d e : KeptDeletes) (files : List FileNumber)
     → e.indexed ≡ d.indexed → e.waiting.items ≡ d.waiting.items ++ files → AreDeletesOf kept xs d → AreKept kept files

@@ -232,8 +232,19 @@ pub fn with_gained(
     more.grown(alloc, entries).ok()
 }
 
+/// Whether there are none, or they were dropped.
+fn are_none(deletes: &Option<KeptDeletes>) -> bool
+    ensures { IsTrue result → IfSome deletes.now (λ deletes.
+        (deletes.indexed.files.items ≡ []) × (deletes.waiting.items ≡ [])) }
+{
+    match deletes {
+        Some(deletes) => deletes.is_empty(),
+        None => true,
+    }
+}
+
 /// The delete files of the rows that another state gains these slots: all of its own where it took no row that is taken
-/// here. None where memory is refused.
+/// here, or has none. None where memory is refused.
 pub fn absorbed_deletes(
     alloc: Global,
     slots: &[Option<Taken>],
@@ -248,6 +259,9 @@ pub fn absorbed_deletes(
         (kept_in (gains (contents kept slots.now) (contents entries.now other.now)))) }
 {
     if are_apart(slots, other) {
+        return deletes;
+    }
+    if are_none(&deletes) {
         return deletes;
     }
     let files = files_by_number(alloc, slots, entries, other).ok()?;
