@@ -20,6 +20,7 @@ use Rattle.ice_state.specs.KeptDeletes.{AreDeletesOf}
 use Rattle.ice_state.specs.Outcomes.{by_path, path_before, twice}
 use Rattle.ice_state.specs.Parts.{holds_deletes}
 use Rattle.ice_state.specs.Pruning.{holds}
+use Rattle.ice_state.specs.Rising.{HaveRisingPaths}
 use Rattle.ice_state.specs.Segments.{AreKept, IsKept, Segmented, entry_at, entries_at}
 use Rattle.ice_state.specs.Shares.{count_at}
 use Rattle.ice_state.proofs.PathsOnce.{by_path_moves}
@@ -168,6 +169,16 @@ once_by_kind xs data_files delete_files are are_deletes once once_deletes apart 
       | inl none ↦ omega (arith, few, few_deletes, count, count_deletes, all, sorted, none)
       | inr none ↦ omega (arith, few, few_deletes, count, count_deletes, all, sorted, none)
     ])
+
+-- those that hold data rise where all do
+pub data_rise : (xs : List Entry) → by_path xs ≡ xs → twice xs ≡ [] → HaveRisingPaths (data_of xs)
+data_rise xs sorted once = record {
+  sorted = sym (filtered_by_path (holds Data) xs) ∙ ap (filter (holds Data)) sorted;
+  once = once_if_few (data_of xs) (λ p.
+      let few = few_if_once xs (subst (λ (ys : List Entry). twice ys ≡ []) (sym sorted) once) p in
+      let all = counted xs p in
+      omega (arith, few, all));
+}
 
 -- ---- files that were put in order
 

@@ -5,6 +5,7 @@ use Rattle.std.specs.Ordering.{nat_cmp, is_lt}
 use Rattle.ice_manifest_reading.specs.declared.entry.Entry.{Entry}
 use Rattle.ice_state.specs.declared.kept.row_runs.Run.{Run}
 use Rattle.ice_state.specs.Apart.{path_at}
+use Rattle.ice_state.specs.Outcomes.{by_path, twice}
 
 -- each path stands before the next one
 abbrev pub Rise : List Entry → Type 0
@@ -21,3 +22,8 @@ pub record HasEnds (xs : List Entry) (run : Run) : Type 0 where
 abbrev pub IsRunOf : List Entry → Option Run → Type 0
 IsRunOf xs None = xs ≡ []
 IsRunOf xs (Some run) = HasEnds xs run
+
+-- the entries stand in the order of their paths, and none of these stands twice
+pub record HaveRisingPaths (xs : List Entry) : Type 0 where
+  pub sorted : by_path xs ≡ xs
+  pub once : twice xs ≡ []

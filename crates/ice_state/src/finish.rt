@@ -1,7 +1,7 @@
 //! The plan of a content, or its first fault.
 
 ghost use Rattle.std.specs.Prelude.{◌≡◌, ◌<◌, ◌≤◌, [], ◌++◌, length, map, IfOk, OnOk, MatchResult, filter};
-ghost use Rattle.std.specs.Prelude.{option_map, IfSome, List, ℕ, take, false};
+ghost use Rattle.std.specs.Prelude.{option_map, IfSome, IsTrue, List, ℕ, take, false};
 ghost use Rattle.std.specs.List.{enumerate_from, list_any};
 ghost use Rattle.std.specs.List.Sorted.{IsPermutation};
 ghost use Rattle.std.specs.Option.{option_copied};
@@ -18,6 +18,7 @@ ghost use Rattle.ice_state.specs.Orders.{IsOrder};
 ghost use Rattle.ice_state.specs.Outcomes.{missing, bad, twice, by_path, kept_in, plan_over, outcome_of};
 ghost use Rattle.ice_state.specs.Outcomes.{entries_in as entries_given};
 ghost use Rattle.ice_state.specs.Parts.{fault_of, Stops, holds_deletes, places_of};
+ghost use Rattle.ice_state.specs.Rising.{HaveRisingPaths};
 ghost use Rattle.ice_state.specs.Segments.{AreKept, entries_at, segment_at, Segmented};
 ghost use Rattle.ice_state.specs.Stretches.{IsStretch};
 ghost use Rattle.ice_state.specs.Shares.{count_at};
@@ -40,7 +41,7 @@ use crate::finish::ranks::ranks;
 use crate::kept::deletes::KeptDeletes;
 use crate::kept::indexed::IndexedDeletes;
 use crate::kept::ordered::{order_of_files, rows_by_first_path};
-use crate::kept::row_runs::rows_rise;
+use crate::kept::row_runs::{data_files_rise, rows_rise};
 use crate::kept::segments::{FileNumber, Segments};
 use crate::kept::taken::Taken;
 use crate::plan::NumberedPlan;
@@ -119,20 +120,23 @@ fn check_once(alloc: Global, entries: &Segments, files: &FilesByKind) -> Result<
     check_neighbours(alloc, entries, &sorted)
 }
 
-/// Puts files in the order of their paths. Stops at the first path that two of them share.
+/// Puts files in the order of their paths, of which the data files' may be known to rise. Stops at the first path that
+/// two of them share.
 fn put_in_order(
     alloc: Global,
     entries: &Segments,
     files: &mut FilesByKind,
+    rise: bool,
 ) -> Result<(), FinishFault>
-    requires { AreKeptByKind entries.now files.old }
+    requires kept { AreKeptByKind entries.now files.old }
+    requires rise { IsTrue rise → HaveRisingPaths (entries_at entries.now files.old.data_files.items) }
     ensures sorted { (xs : List Entry) → HasFilesOf entries.now xs files.old →
         OnOk result (HasFilesOf entries.now (by_path xs) files.new) }
     ensures once { (xs : List Entry) → HasFilesOf entries.now xs files.old →
         MatchResult result (λ _. twice (by_path xs) ≡ []) (λ f. Stops f (twice (by_path xs))) }
 {
-    let rise = sort_by_path(alloc, entries, &mut files.data_files)?;
-    let deletes_rise = sort_by_path(alloc, entries, &mut files.delete_files)?;
+    let rise = sort_by_path(alloc, entries, &mut files.data_files, rise)?;
+    let deletes_rise = sort_by_path(alloc, entries, &mut files.delete_files, false)?;
     if rise && deletes_rise && are_apart(entries, &files.data_files, &files.delete_files) {
         return Ok(());
     }
@@ -326,7 +330,8 @@ fn planned(
 }
 
 /// The files of all kept entries in the order of their paths. Stops at the first path that two of them share. Where the
-/// rows' files rise one row behind the other, no path is looked at.
+/// rows' files rise one row behind the other, no path is looked at; where their data files do, none of a data file is
+/// sorted.
 fn files_by_path(
     alloc: Global,
     entries: &Segments,
@@ -340,7 +345,8 @@ fn files_by_path(
     let rows = rows_by_first_path(alloc, entries, slots)?;
     let mut files = gathered(alloc, entries, slots, deletes, rows.as_slice())?;
     if !rows_rise(entries, slots, rows.as_slice()) {
-        put_in_order(alloc, entries, &mut files)?;
+        let rise = data_files_rise(alloc, entries, slots, rows.as_slice(), &files)?;
+        put_in_order(alloc, entries, &mut files, rise)?;
     }
     Ok(files)
 }

@@ -1,19 +1,24 @@
 //! Whether the files of rows rise, one row behind the other.
 
-ghost use Rattle.std.specs.Prelude.{◌≡◌, ◌<◌, [], IfSome, IsTrue, length, option_map};
-ghost use Rattle.std.specs.List.{range_with_len};
-ghost use Rattle.std.specs.List.Sorted.{IsPermutation};
-ghost use Rattle.ice_state_entries.specs.Kept.{entries_at as entries_in};
+ghost use Rattle.std.specs.Prelude.{◌≡◌, ◌<◌, [], false, filter, IfOk, IfSome, IsTrue, length, option_map};
+ghost use Rattle.ice_value.specs.declared.file_content.FileContent.TheVariants.{Data};
+ghost use Rattle.ice_state_entries.specs.Kept.{AreKept as AreKeptIn, entries_at as entries_in};
 ghost use Rattle.ice_state.specs.Orders.{runs_at};
 ghost use Rattle.ice_state.specs.Outcomes.{by_path, entries_in as entries_given, twice};
 ghost use Rattle.ice_state.specs.Apart.{path_at};
-ghost use Rattle.ice_state.specs.Rising.{IsRunOf};
+ghost use Rattle.ice_state.specs.Lines.{AreWithin};
+ghost use Rattle.ice_state.specs.Pruning.{holds};
+ghost use Rattle.ice_state.specs.Rising.{HaveRisingPaths, IsRunOf};
 ghost use Rattle.ice_state.specs.Segments.{segment_at};
 ghost use Rattle.ice_state.specs.Slots.{contents, given, HasNumbers, HaveNumbers, IsIn};
 
+use crate::finish::by_kind::FilesByKind;
 use crate::kept::ordered::Ordered;
 use crate::kept::segments::Segments;
 use crate::kept::taken::Taken;
+use ice_state_entries::{Entries, EntryNumber};
+use ice_value::FileContent;
+use std::alloc::{AllocError, Global};
 
 /// The first and the last path of what a row gave, and whether the paths from one to the other rise.
 #[derive(Clone, Copy, Debug)]
@@ -56,7 +61,7 @@ fn run_of<'a>(entries: &'a Segments, slot: &Option<Taken>) -> Option<Run<'a>>
 /// Whether the files of rows rise by path, one row behind the other: then they stand in order, and no path twice.
 pub(crate) fn rows_rise(entries: &Segments, slots: &[Option<Taken>], rows: &[u32]) -> bool
     requires numbers { HaveNumbers entries.now slots.now }
-    requires rows { IsPermutation (range_with_len 0 (length slots.now)) rows.now }
+    requires rows { AreWithin (length slots.now) rows.now }
     ensures sorted { IsTrue result → by_path (runs_at (contents entries.now slots.now) rows.now)
         ≡ runs_at (contents entries.now slots.now) rows.now }
     ensures once { IsTrue result → twice (runs_at (contents entries.now slots.now) rows.now) ≡ [] }
@@ -72,4 +77,75 @@ pub(crate) fn rows_rise(entries: &Segments, slots: &[Option<Taken>], rows: &[u32
         }
     }
     true
+}
+
+/// Whether one of some entries holds data.
+fn hold_data(entries: &Entries, numbers: &[EntryNumber]) -> bool
+    requires { AreKeptIn entries.now numbers.now }
+    ensures { result ≡ false → filter (holds Data) (entries_in entries.now numbers.now) ≡ [] }
+{
+    'numbers: for number in numbers {
+        if entries.content(*number) == FileContent::Data {
+            return true;
+        }
+    }
+    false
+}
+
+/// Whether a row gave data files.
+fn has_data(entries: &Segments, slot: &Option<Taken>) -> bool
+    requires { IfSome slot.now (HasNumbers entries.now) }
+    ensures { result ≡ false → filter (holds Data) (by_path
+        (entries_given (option_map (given entries.now) slot.now))) ≡ [] }
+{
+    match slot {
+        Some(Taken::Good(ordered)) => {
+            let numbers = ordered.numbers.as_slice();
+            hold_data(entries.segment(ordered.segment), numbers)
+        }
+        _ => false,
+    }
+}
+
+/// Those of the rows that gave data files.
+fn rows_with_data(
+    alloc: Global,
+    entries: &Segments,
+    slots: &[Option<Taken>],
+    rows: &[u32],
+) -> Result<Vec<u32>, AllocError>
+    requires numbers { HaveNumbers entries.now slots.now }
+    requires rows { AreWithin (length slots.now) rows.now }
+    ensures within { IfOk result (λ found. AreWithin (length slots.now) found.items) }
+    ensures same { IfOk result (λ found. filter (holds Data) (runs_at (contents entries.now slots.now) found.items)
+        ≡ filter (holds Data) (runs_at (contents entries.now slots.now) rows.now)) }
+{
+    let mut found = Vec::new(alloc);
+    'rows: for row in rows {
+        if has_data(entries, &slots[*row as usize]) {
+            found.push(*row)?;
+        }
+    }
+    Ok(found)
+}
+
+/// Whether the data files of rows rise, as far as rows tell: where those that gave some do so one behind the other.
+pub(crate) fn data_files_rise(
+    alloc: Global,
+    entries: &Segments,
+    slots: &[Option<Taken>],
+    rows: &[u32],
+    files: &FilesByKind,
+) -> Result<bool, AllocError>
+    requires numbers { HaveNumbers entries.now slots.now }
+    requires rows { AreWithin (length slots.now) rows.now }
+    ensures { IfOk result (λ rise. IsTrue rise →
+        HaveRisingPaths (filter (holds Data) (runs_at (contents entries.now slots.now) rows.now))) }
+{
+    // Where few files hold data, it is sooner seen from these.
+    if files.data_files.len() < files.delete_files.len() {
+        return Ok(false);
+    }
+    let found = rows_with_data(alloc, entries, slots, rows)?;
+    Ok(rows_rise(entries, slots, &found))
 }

@@ -1,18 +1,24 @@
-use Rattle.std.proofs.Common.{◌≡◌, ◌∙◌, [], List, ℕ, ap, refl, subst, sym}
+use Rattle.std.proofs.Common.{◌≡◌, ◌<◌, ◌∙◌, [], List, ℕ, ap, filter, length, refl, subst, sym}
 use Rattle.std.specs.List.{range_with_len}
 use Rattle.std.specs.List.Sorted.{IsPermutation}
 use Rattle.std.proofs.lemmas.List.Sorted.{IsPermutation-refl}
+use Rattle.std.proofs.lemmas.List.Elements.{recursion_from_All}
 use Rattle.std.proofs.lemmas.Result.{err_from_is_err_and}
+use Rattle.ice_value.specs.declared.file_content.FileContent.TheVariants.{Data}
 use Rattle.ice_manifest_reading.specs.declared.entry.Entry.{Entry}
 use Rattle.ice_state.specs.ByKind.{HasFilesOf}
+use Rattle.ice_state.specs.Lines.{AreWithin}
 use Rattle.ice_state.specs.Orders.{runs_at}
 use Rattle.ice_state.specs.Outcomes.{by_path, kept_in, twice}
+use Rattle.ice_state.specs.Pruning.{holds}
+use Rattle.ice_state.specs.Rising.{HaveRisingPaths}
 use Rattle.ice_state.specs.Slots.{contents}
+use Rattle.ice_state.proofs.RankedIndex.{order_below}
 use Rattle.ice_state.proofs.RowsMoved.{rows_moved}
 use Rattle.ice_state.proofs.SlotContents.{length-contents}
 use Rattle.ice_state.proofs.finish.files_by_path.Goals as goal
 use Rattle.ice_state.proofs.finish.files_by_path.Goals.{In_ok-rows, In_ok-files}
-use Rattle.ice_state.proofs.finish.files_by_path.Goals.{then-not-rows_rise+in_ok-put_in_order, else-not-rows_rise}
+use Rattle.ice_state.proofs.finish.files_by_path.Goals.{then-not-rows_rise+in_ok-rise+in_ok-put_in_order, else-not-rows_rise}
 
 -- the rows' files are those of the content, in another order
 moved : (c : In_ok-rows) → IsPermutation (kept_in (contents c.args.entries.now c.args.slots.now))
@@ -27,6 +33,34 @@ has : (c : In_ok-files) → HasFilesOf c.args.entries.now
 has c = subst (λ (ns : List ℕ). HasFilesOf c.args.entries.now
     (runs_at (contents c.args.entries.now c.args.slots.now) ns) c.in_ok-files.files) c.as_slice.ensures
     c.in_ok-files.ensures
+
+-- the rows are places of slots
+within : (c : In_ok-rows) → AreWithin (length c.args.slots.now) c.in_ok-rows.rows
+within c =
+    let n = length c.args.slots.now in
+    recursion_from_All (λ k. k < n) c.in_ok-rows.rows (order_below n c.in_ok-rows.rows c.in_ok-rows.ensures)
+
+pub rows_rise-requires-clause-rows : goal.rows_rise-requires-clause-rows
+rows_rise-requires-clause-rows c =
+    subst (AreWithin (length c.args.slots.now)) (sym c.as_slice-2.ensures)
+    (within (goal.at.rows_rise-requires-clause-rows c).In_ok-rows)
+
+pub data_files_rise-requires-clause-rows : goal.data_files_rise-requires-clause-rows
+data_files_rise-requires-clause-rows c =
+    subst (AreWithin (length c.args.slots.now)) (sym c.as_slice-then-not-rows_rise.ensures)
+    (within (goal.at.data_files_rise-requires-clause-rows c).In_ok-rows)
+
+pub put_in_order-requires-clause-rise : goal.put_in_order-requires-clause-rise
+put_in_order-requires-clause-rise c = λ t.
+    let cs = contents c.args.entries.now c.args.slots.now in
+    subst HaveRisingPaths (ap (λ rows. filter (holds Data) (runs_at cs rows)) c.as_slice-then-not-rows_rise.ensures
+    ∙ sym (has (goal.at.put_in_order-requires-clause-rise c).In_ok-files).all) (c.in_ok-rise.ensures t)
+
+pub returns-in_err-rise : goal.returns-in_err-rise
+returns-in_err-rise c =
+    let all = kept_in (contents c.args.entries.now c.args.slots.now) in
+    let p = err_from_is_err_and c.from_residual-in_err-rise.result c.from_residual-in_err-rise.ensures.1 in
+    (all, IsPermutation-refl all, rw (p.1, p.2) tt)
 
 pub returns-in_err-rows : goal.returns-in_err-rows
 returns-in_err-rows c =
@@ -58,7 +92,7 @@ returns c =
       xs,
       moved at.In_ok-rows,
       elim c.if-not-rows_rise.branch [
-        | then-not-rows_rise+in_ok-put_in_order w ↦
+        | then-not-rows_rise+in_ok-rise+in_ok-put_in_order w ↦
             let put = w.in_ok-put_in_order.ensures in
             rw w.files-is (put.sorted xs here, put.once xs here)
         | else-not-rows_rise w ↦

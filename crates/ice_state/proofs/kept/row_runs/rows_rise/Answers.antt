@@ -10,7 +10,7 @@ use Rattle.ice_state.specs.Orders.{runs_at}
 use Rattle.ice_state.specs.Outcomes.{by_path, entries_in}
 use Rattle.ice_state.specs.Rising.{HasEnds, IsRunOf, Rise}
 use Rattle.ice_state.specs.Slots.{contents, given}
-use Rattle.ice_state.proofs.RankedIndex.{order_below}
+use Rattle.ice_state.proofs.Positions.{place_within}
 use Rattle.ice_state.proofs.Rising.{end_of_both, once_if_rising, rise_behind, sorted_if_rising}
 use Rattle.ice_state.proofs.RowsMoved.{at_row, row_more, slot_numbers}
 use Rattle.ice_state.proofs.SlotContents.{at-contents, length-contents}
@@ -19,13 +19,13 @@ use Rattle.ice_state.proofs.kept.row_runs.rows_rise.Goals as goal
 
 pub bounds-slots-row : goal.bounds-slots-row
 bounds-slots-row c =
-    order_below (length c.args.slots.now) c.args.rows.now c.requires.rows c.rows.row-index 0 c.rows-test.true
+    place_within (length c.args.slots.now) c.args.rows.now c.rows.row-index c.requires.rows c.rows-test.true
 
 pub run_of-requires : goal.run_of-requires
 run_of-requires c =
     let slots = c.args.slots.now in
     let rows = c.args.rows.now in
-    let below = order_below (length slots) rows c.requires.rows c.rows.row-index 0 c.rows-test.true in
+    let below = place_within (length slots) rows c.rows.row-index c.requires.rows c.rows-test.true in
     slot_numbers c.args.entries.now slots (get_or rows c.rows.row-index 0) c.index-slots-row.result
     c.index-slots-row.is below c.requires.numbers
 
@@ -40,7 +40,7 @@ rows-preserved c =
     let run = by_path (entries_in (option_map (given kept) slot)) in
     let old = runs_at cs (take i rows) in
     let row = get_or rows i 0 in
-    let below : row < length slots = order_below (length slots) rows c.requires.rows i 0 c.rows-test.true in
+    let below : row < length slots = place_within (length slots) rows i c.requires.rows c.rows-test.true in
     let here = ap (λ s. by_path (entries_in s)) (at_row cs row (option_map (given kept) slot)
     (omega (arith, below, length-contents kept slots)) (at-contents kept slots row slot c.index-slots-row.is)) in
     let step : old ++ run ≡ runs_at cs (take (i + 1) rows) =
