@@ -53,7 +53,8 @@ fn gap_of(entries: &Segments, files: &[FileNumber], path: &[u8], near: usize) ->
         return Some(near);
     }
     let end = end_of_steps(entries, files, path, near);
-    let place = bisected(entries, files, path, near, end);
+    // Half of the way was looked at last.
+    let place = bisected(entries, files, path, near + (end - near) / 2, end);
     if is_gap(entries, files, path, place) {
         return Some(place);
     }
@@ -92,7 +93,7 @@ fn is_gap(entries: &Segments, files: &[FileNumber], path: &[u8], place: usize) -
     requires place { place ≤ length files.now }
     ensures { IsTrue result → IsGap (entries_at entries.now files.now) path.now place }
 {
-    is_behind(entries, files, path, place) && is_in_front(entries, files, path, place)
+    is_in_front(entries, files, path, place) && is_behind(entries, files, path, place)
 }
 
 /// Whether a path stands behind the file before a place, if there is one.
