@@ -38,7 +38,7 @@ fn put_front<S: Sink>(sink: &mut S, bytes: &[u8]) -> Result<usize, SinkFault>
 const BLOCK: usize = 16;
 
 /// Whether one of the bytes has to be escaped. No branch stands between them, so that a processor looks at many at once.
-fn has_escaped(bytes: &[u8]) -> bool
+pub fn has_escaped(bytes: &[u8]) -> bool
     ensures { result ≡ false → escaped bytes.now ≡ bytes.now }
 {
     let mut has = false;

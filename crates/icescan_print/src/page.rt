@@ -5,7 +5,7 @@ ghost use Rattle.icescan_print.specs.Escaping.{escaped};
 ghost use Rattle.icescan_print.specs.Pieces.{named_signed};
 ghost use Rattle.icescan_print.specs.Written.{Sent, Wrote};
 
-use crate::escape::{count_plain, digits_of, is_escaped};
+use crate::escape::{count_plain, digits_of, has_escaped, is_escaped};
 use crate::sink::{Sink, SinkFault, write_all};
 use itoa::{Buffer, Integer};
 use std::alloc::{AllocError, Global};
@@ -159,6 +159,16 @@ impl Page {
 
     /// Sends a path or a name, escaped.
     pub fn put_escaped<S: Sink>(&mut self, sink: &mut S, bytes: &[u8]) -> Result<(), SinkFault>
+        ensures { Sent S.taken S.may_fail sink.old self.old result sink.new self.new (escaped bytes.now) }
+    {
+        if !has_escaped(bytes) {
+            return self.put(sink, bytes);
+        }
+        self.put_fronts(sink, bytes)
+    }
+
+    /// Sends a path or a name, escaped, a run of plain bytes or one escaped byte at a time.
+    fn put_fronts<S: Sink>(&mut self, sink: &mut S, bytes: &[u8]) -> Result<(), SinkFault>
         ensures { Sent S.taken S.may_fail sink.old self.old result sink.new self.new (escaped bytes.now) }
     {
         let mut done = 0;

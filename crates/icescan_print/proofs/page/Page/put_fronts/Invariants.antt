@@ -1,7 +1,7 @@
 use Rattle.std.proofs.Common.{◌≤◌, ◌-◌, length, take, Ok}
 use Rattle.icescan_print.specs.Escaping.{escaped}
 use Rattle.icescan_print.specs.Written.{Sent}
-use Rattle.icescan_print.proofs.page.Page.put_escaped.Given as goal
+use Rattle.icescan_print.proofs.page.Page.put_fronts.Given as goal
 
 -- what was sent so far are the bytes so far
 abbrev pub invariant-loop-done : goal.invariant-loop-done

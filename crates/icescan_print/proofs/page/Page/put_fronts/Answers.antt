@@ -2,7 +2,7 @@ use Rattle.std.proofs.Common.{arith}
 use Rattle.std.proofs.lemmas.List.{take_rest}
 use Rattle.icescan_print.proofs.Writes.{escaped_split, escaped_more}
 use Rattle.icescan_print.proofs.Sends.{sent_more, sent_fails, sent_none}
-use Rattle.icescan_print.proofs.page.Page.put_escaped.Goals as goal
+use Rattle.icescan_print.proofs.page.Page.put_fronts.Goals as goal
 
 pub loop-done-init : goal.loop-done-init
 loop-done-init g c = record { within = omega arith; sent = sent_none _ _ _ _ _ }
