@@ -1,8 +1,10 @@
 -- Places for texts that were made.
 use Rattle.std.proofs.Common.{◌≡◌, ◌<◌, ℕ, zero, suc, List, [], ◌∷◌, ◌++◌, length, Option, Some, None, refl, arith}
 use Rattle.std.proofs.Common.{slice_get, slice_set}
-use Rattle.ice_state.specs.Lines.{OwnedLine}
+use Rattle.std.specs.List.{AllByRecursion}
+use Rattle.ice_state.specs.Lines.{LacksDeletes, OwnedLine}
 use Rattle.icescan_print.specs.MadeDeletes.{IsMade, AreMade}
+use Rattle.icescan_print.specs.PlanTexts.{deletes_text}
 use Rattle.icescan_print.specs.declared.made_deletes.Made.{Made}
 
 -- one place more, without a text
@@ -33,3 +35,12 @@ pub line_there : (lines : List OwnedLine) (i : ℕ) → i < length lines
 line_there [] i within = absurd (omega (arith, within))
 line_there (x ∷ lines) zero within = (x, refl)
 line_there (x ∷ lines) (suc i) within = line_there lines i (omega (arith, within))
+
+-- where no data file has delete files, a line has no text of them
+pub none_told : (lines : List OwnedLine) (i : ℕ) (line : OwnedLine) → AllByRecursion LacksDeletes lines
+    → slice_get lines i ≡ Some line → deletes_text line ≡ []
+none_told [] i line lacking is = absurd cc
+none_told (l ∷ ls) zero line lacking is =
+    let e : l ≡ line = cc in
+    rw (← e, lacking.0.0, lacking.0.1) refl
+none_told (l ∷ ls) (suc i) line lacking is = none_told ls i line lacking.1 is

@@ -1,7 +1,8 @@
 //! Texts of delete files that are kept as they were made, since the same delete files apply to many data files.
 
-ghost use Rattle.std.specs.Prelude.{◌≡◌, ◌<◌, List, Some, length, slice_get, IfSome, IfOk};
-ghost use Rattle.ice_state.specs.Lines.{OwnedLine};
+ghost use Rattle.std.specs.Prelude.{◌≡◌, ◌<◌, List, Some, length, slice_get, IfSome, IfOk, IsTrue};
+ghost use Rattle.std.specs.List.{AllByRecursion};
+ghost use Rattle.ice_state.specs.Lines.{LacksDeletes, OwnedLine};
 ghost use Rattle.icescan_print.specs.MadeDeletes.{AreMade, IsMade};
 ghost use Rattle.icescan_print.specs.PlanTexts.{deletes_text};
 ghost use Rattle.icescan_print.specs.Written.{Sent};
@@ -76,6 +77,13 @@ impl<'l, 'a> MadeDeletes<'l, 'a> {
         self.lines.line(i)
     }
 
+    /// Whether there are no delete files.
+    fn lack_deletes(&self) -> bool
+        ensures { IsTrue result → AllByRecursion LacksDeletes self.now }
+    {
+        self.lines.lacks_deletes()
+    }
+
     /// The text of a line's delete files, where it is kept.
     fn text(&self, i: usize) -> Option<&[u8]>
         requires { i < length self.now }
@@ -148,9 +156,13 @@ pub(crate) fn put_made_deletes<S: Sink>(
     ensures sent { (line : OwnedLine) → slice_get lines.old i ≡ Some line →
         Sent S.taken S.may_fail sink.old page.old result sink.new page.new (deletes_text line) }
 {
-    if lines.text(i).is_none() {
-        lines.keep(i);
+    if lines.lack_deletes() {
+        return Ok(());
     }
+    if let Some(text) = lines.text(i) {
+        return page.put(sink, text);
+    }
+    lines.keep(i);
     match lines.text(i) {
         Some(text) => page.put(sink, text),
         None => put_deletes(page, sink, &lines.line(i)),
