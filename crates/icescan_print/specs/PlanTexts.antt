@@ -19,6 +19,12 @@ numbered_path name x = named_path name x.file.path ++ named_number (codes " seq 
 abbrev pub size_text : Entry → List ℕ
 size_text x = named_signed (codes " rows ") x.file.record_count ++ named_signed (codes " size ") x.file.file_size
 
+-- what stands behind the path in the line of a data file
+abbrev pub file_end : Entry → List ℕ
+file_end x = named_number (codes " seq ") x.sequence_number ++ (named_signed (codes " spec ") x.spec_id
+    ++ (named_signed (codes " rows ") x.file.record_count ++ (named_signed (codes " size ") x.file.file_size
+    ++ 10 ∷ [])))
+
 -- the line of a data file
 unfoldable pub file_text : Entry → List ℕ
 file_text x = numbered_path (codes "data ") x ++ (named_signed (codes " spec ") x.spec_id ++ (size_text x ++ 10 ∷ []))

@@ -4,6 +4,7 @@
 #![tactic(auto)]
 
 mod by_workers;
+mod endings;
 mod escape;
 mod made_deletes;
 mod page;

@@ -4,13 +4,14 @@ ghost use Rattle.std.specs.Prelude.{◌≡◌, ◌∷◌, ◌<◌, Some, length,
 ghost use Rattle.std.specs.List.{flat_map};
 ghost use Rattle.std.specs.Fmt.{signed_decimal};
 ghost use Rattle.ice_state.specs.Lines.{OwnedLine};
-ghost use Rattle.icescan_print.specs.PlanTexts.{totals_text, ids_text, numbered_path, size_text, file_text};
+ghost use Rattle.icescan_print.specs.PlanTexts.{totals_text, ids_text, numbered_path, file_end, file_text};
 ghost use Rattle.icescan_print.specs.PlanTexts.{position_text};
 ghost use Rattle.icescan_print.specs.PlanTexts.{equality_text};
 ghost use Rattle.icescan_print.specs.PlanTexts.{totals_text, line_text, deletes_of, deletes_text, plan_text};
 ghost use Rattle.icescan_print.specs.Ranges.{range_text};
 ghost use Rattle.icescan_print.specs.Written.{Sent};
 
+use crate::endings::{put_int_before, put_long_before, put_number_before};
 use crate::made_deletes::{MadeDeletes, put_made_deletes};
 use crate::page::Page;
 use crate::sink::{Sink, SinkFault};
@@ -111,22 +112,31 @@ fn put_line<S: Sink>(
     put_made_deletes(page, sink, lines, i)
 }
 
-#[tactic(auto, unfolding(crate::specs::PlanTexts::file_text))]
+/// How many bytes there are room for behind a data file's path.
+const END: usize = 112;
+
+/// Sends the line of a data file.
 fn put_file<S: Sink>(page: &mut Page, sink: &mut S, file: &PlanFile<'_>) -> Result<(), SinkFault>
     ensures { Sent S.taken S.may_fail sink.old page.old result sink.new page.new (file_text file.now) }
 {
-    put_numbered_path(page, sink, b"data ", file)?;
-    page.put_named_int(sink, b" spec ", file.spec_id())?;
-    put_size(page, sink, file)?;
-    page.put(sink, b"\n")
+    page.put_named_path(sink, b"data ", file.path())?;
+    put_file_end(page, sink, file)
 }
 
-/// Sends a file's rows and bytes.
-fn put_size<S: Sink>(page: &mut Page, sink: &mut S, file: &PlanFile<'_>) -> Result<(), SinkFault>
-    ensures { Sent S.taken S.may_fail sink.old page.old result sink.new page.new (size_text file.now) }
+/// Sends what stands behind the path in the line of a data file.
+fn put_file_end<S: Sink>(
+    page: &mut Page,
+    sink: &mut S,
+    file: &PlanFile<'_>,
+) -> Result<(), SinkFault>
+    ensures { Sent S.taken S.may_fail sink.old page.old result sink.new page.new (file_end file.now) }
 {
-    page.put_named_long(sink, b" rows ", file.record_count())?;
-    page.put_named_long(sink, b" size ", file.file_size())
+    let mut bytes = [b'\n'; END];
+    let start = put_long_before(&mut bytes, END - 1, b" size ", file.file_size());
+    let start = put_long_before(&mut bytes, start, b" rows ", file.record_count());
+    let start = put_int_before(&mut bytes, start, b" spec ", file.spec_id());
+    let start = put_number_before(&mut bytes, start, b" seq ", file.sequence_number().get());
+    page.put(sink, &bytes[start..])
 }
 
 /// Sends a file's path and sequence number.
