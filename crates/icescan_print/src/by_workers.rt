@@ -1,16 +1,17 @@
-//! The text of a plan's lines, made by many threads at once and handed on in order.
+//! Texts of things that are listed, made by many threads at once and handed on in order.
 
 ghost use Rattle.std.specs.Prelude.{◌≡◌, ◌<◌, ◌≤◌, ◌*◌, ◌+◌, ◌^◌, ℕ, List, Some, IfOk, OnOk, IfSome, length, sum_by};
 ghost use Rattle.std.specs.Prelude.{vec_len};
-ghost use Rattle.std.specs.List.{flat_map};
+ghost use Rattle.std.specs.List.{concat};
 ghost use Rattle.std.specs.Thread.{IsSync};
-ghost use Rattle.icescan_print.specs.PlanTexts.{deletes_of, line_text, plan_text};
+ghost use Rattle.icescan_print.specs.PlanTexts.{deletes_of, plan_text};
 ghost use Rattle.icescan_print.specs.Ranges.{AreTexts, IsDraftOf, range_text};
 ghost use Rattle.icescan_print.specs.Written.{Sent};
 
 use crate::page::Page;
-use crate::plan_text::{put_lines, put_some_lines, put_totals};
+use crate::plan_text::put_totals;
 use crate::sink::{Nowhere, Sink, SinkFault};
+use crate::text_list::TextList;
 use ice_state::Lines;
 use std::alloc::{AllocError, Global};
 use std::thread::{Threads, join_mut};
@@ -36,25 +37,25 @@ impl Draft {
         })
     }
 
-    /// With the text of so many of a plan's lines from a place on in the place of the one before. It is not whole where
+    /// With the text of so many things of a list from a place on in the place of the one before. It is not whole where
     /// it is too long to be made ahead.
-    fn with_text(mut self, lines: &Lines<'_>, first: usize, count: usize) -> Draft
-        ensures { IsDraftOf (Some result) (range_text lines.now first count) }
+    fn with_text<T: TextList>(mut self, list: &T, first: usize, count: usize) -> Draft
+        ensures { IsDraftOf (Some result) (range_text (T.texts list.now) first count) }
     {
         self.page.clear();
-        let put = put_some_lines(&mut self.page, &mut Nowhere, lines, first, count);
+        let put = list.put_range(&mut self.page, &mut Nowhere, first, count);
         self.whole = put.is_ok();
         self
     }
 }
 
-/// Makes the text of so many of a plan's lines from a place on in a draft. It is taken out for as long: drafts lie side
+/// Makes the text of so many things of a list from a place on in a draft. It is taken out for as long: drafts lie side
 /// by side in memory, and threads that write to them there would slow one another.
-fn make_text(draft: &mut Option<Draft>, lines: &Lines<'_>, first: usize, count: usize)
-    ensures { IsDraftOf draft.new (range_text lines.now first count) }
+fn make_text<T: TextList>(draft: &mut Option<Draft>, list: &T, first: usize, count: usize)
+    ensures { IsDraftOf draft.new (range_text (T.texts list.now) first count) }
 {
     if let Some(taken) = draft.take() {
-        *draft = Some(taken.with_text(lines, first, count));
+        *draft = Some(taken.with_text(list, first, count));
     }
 }
 
@@ -79,32 +80,31 @@ fn drafts_of(alloc: Global, ranges: usize) -> Result<Vec<Option<Draft>>, AllocEr
     Ok(drafts)
 }
 
-/// Makes the texts of ranges of a plan's lines from a place on, each of so many lines and in a thread of its own. This
-/// one only starts them and waits: a thread that was started often has to wait for the one that started it, while this
-/// works.
+/// Makes the texts of ranges of a list from a place on, each of so many things and in a thread of its own. This one only
+/// starts them and waits: a thread that was started often has to wait for the one that started it, while this works.
 #[cycle(texts)]
-fn make_texts<R: Threads + Sync>(
+fn make_texts<R: Threads + Sync, T: TextList + Sync>(
     rt: &R,
-    lines: &Lines<'_>,
+    list: &T,
     first: usize,
     each: usize,
     drafts: &mut [Option<Draft>],
 )
     requires { first + length drafts.old * each < 2 ^ 64 }
-    ensures { AreTexts lines.now first each drafts.new }
+    ensures { AreTexts (T.texts list.now) first each drafts.new }
 {
     if drafts.is_empty() {
         return;
     }
     let (one, others) = drafts.split_at_mut(1);
-    make_beside(rt, lines, first, each, one, others);
+    make_beside(rt, list, first, each, one, others);
 }
 
 /// The text of the first range, in a thread of its own, beside those of the others.
 #[cycle(texts)]
-fn make_beside<R: Threads + Sync>(
+fn make_beside<R: Threads + Sync, T: TextList + Sync>(
     rt: &R,
-    lines: &Lines<'_>,
+    list: &T,
     first: usize,
     each: usize,
     one: &mut [Option<Draft>],
@@ -112,49 +112,49 @@ fn make_beside<R: Threads + Sync>(
 )
     requires one { length one.old ≡ 1 }
     requires room { first + each + length others.old * each < 2 ^ 64 }
-    ensures one { AreTexts lines.now first each one.new }
-    ensures others { AreTexts lines.now (first + each) each others.new }
+    ensures one { AreTexts (T.texts list.now) first each one.new }
+    ensures others { AreTexts (T.texts list.now) (first + each) each others.new }
 {
     let mut front = ||
         requires { length one.now ≡ 1 }
-        ensures { AreTexts lines.entry.now first each one.exit.now }
-    { make_text(&mut one[0], lines, first, each) };
+        ensures { AreTexts (T.texts list.entry.now) first each one.exit.now }
+    { make_text(&mut one[0], list, first, each) };
     let mut back = ||
-        requires { IsSync R.row × (first + each + length others.now * each < 2 ^ 64) }
-        ensures { AreTexts lines.entry.now (first + each) each others.exit.now }
-    { make_texts(rt, lines, first + each, each, others) };
+        requires { IsSync R.row × IsSync T.row × (first + each + length others.now * each < 2 ^ 64) }
+        ensures { AreTexts (T.texts list.entry.now) (first + each) each others.exit.now }
+    { make_texts(rt, list, first + each, each, others) };
     join_mut(rt, &mut front, &mut back);
 }
 
-/// Sends texts that were made of ranges of a plan's lines, and the text of a range of which none was made.
-fn put_texts<S: Sink>(
+/// Sends texts that were made of ranges of a list, and the text of a range of which none was made.
+fn put_texts<T: TextList, S: Sink>(
     page: &mut Page,
     sink: &mut S,
-    lines: &Lines<'_>,
+    list: &T,
     first: usize,
     each: usize,
     drafts: &[Option<Draft>],
 ) -> Result<(), SinkFault>
     requires room { first + length drafts.now * each < 2 ^ 64 }
-    requires texts { AreTexts lines.now first each drafts.now }
+    requires texts { AreTexts (T.texts list.now) first each drafts.now }
     ensures { Sent S.taken S.may_fail sink.old page.old result sink.new page.new
-        (range_text lines.now first (length drafts.now * each)) }
+        (range_text (T.texts list.now) first (length drafts.now * each)) }
 {
     for (i, draft) in drafts.iter().enumerate() {
         match whole_text(draft) {
             Some(text) => page.put(sink, text)?,
-            None => put_some_lines(page, sink, lines, first + i * each, each)?,
+            None => list.put_range(page, sink, first + i * each, each)?,
         }
     }
     Ok(())
 }
 
-/// Sends the text of ranges of a plan's lines from a place on, made by threads.
-fn put_ranges<R: Threads + Sync, S: Sink>(
+/// Sends the text of ranges of a list from a place on, made by threads.
+fn put_ranges<R: Threads + Sync, T: TextList + Sync, S: Sink>(
     rt: &R,
     page: &mut Page,
     sink: &mut S,
-    lines: &Lines<'_>,
+    list: &T,
     first: usize,
     each: usize,
     drafts: &mut [Option<Draft>],
@@ -162,60 +162,62 @@ fn put_ranges<R: Threads + Sync, S: Sink>(
     requires some { 0 < length drafts.old }
     requires room { first + length drafts.old * each < 2 ^ 64 }
     ensures sent { Sent S.taken S.may_fail sink.old page.old result sink.new page.new
-        (range_text lines.now first (length drafts.old * each)) }
+        (range_text (T.texts list.now) first (length drafts.old * each)) }
     ensures len { length drafts.new ≡ length drafts.old }
 {
-    make_texts(rt, lines, first, each, drafts);
-    put_texts(page, sink, lines, first, each, drafts)
+    make_texts(rt, list, first, each, drafts);
+    put_texts(page, sink, list, first, each, drafts)
 }
 
-/// Sends the text of a plan's lines, made by a thread for each draft, each of so many lines at a time.
-fn put_windows<R: Threads + Sync, S: Sink>(
+/// Sends the texts of a list, made by a thread for each draft, each of so many things at a time.
+fn put_windows<R: Threads + Sync, T: TextList + Sync, S: Sink>(
     rt: &R,
     page: &mut Page,
     sink: &mut S,
-    lines: &Lines<'_>,
+    list: &T,
     each: usize,
     drafts: &mut [Option<Draft>],
 ) -> Result<(), SinkFault>
     requires drafts { (0 < length drafts.old) × (length drafts.old ≤ 64) }
     requires each { (0 < each) × (each ≤ 65536) }
-    ensures { Sent S.taken S.may_fail sink.old page.old result sink.new page.new (flat_map line_text lines.now) }
+    ensures { Sent S.taken S.may_fail sink.old page.old result sink.new page.new (concat (T.texts list.now)) }
 {
     let window = drafts.len() * each;
-    for i in 0..lines.len().div_ceil(window) {
-        put_ranges(rt, page, sink, lines, i * window, each, drafts)?;
+    for i in 0..list.count().div_ceil(window) {
+        put_ranges(rt, page, sink, list, i * window, each, drafts)?;
     }
     Ok(())
 }
 
-/// Sends the text of a plan's lines, made by so many threads at once, each of so many lines at a time, where there are
-/// lines for more than one, and memory for it.
-fn put_lines_by_workers<R: Threads + Sync, S: Sink>(
+/// Sends the texts of a list, one behind the other, made by so many threads at once, from 1 to 64, each of so many things
+/// at a time, from 1 to 65,536, where there are things for more than one. At most 8 MB a thread are made before they are
+/// sent, for which room is taken at the start; a longer text is sent as it is made, and so are all where there is no
+/// such room.
+pub fn put_list_by_workers<R: Threads + Sync, T: TextList + Sync, S: Sink>(
     rt: &R,
     alloc: Global,
     page: &mut Page,
     sink: &mut S,
-    lines: &Lines<'_>,
+    list: &T,
     workers: usize,
     each: usize,
 ) -> Result<(), SinkFault>
     requires workers { (0 < workers) × (workers ≤ 64) }
     requires each { (0 < each) × (each ≤ 65536) }
-    ensures { Sent S.taken S.may_fail sink.old page.old result sink.new page.new (flat_map line_text lines.now) }
+    ensures { Sent S.taken S.may_fail sink.old page.old result sink.new page.new (concat (T.texts list.now)) }
 {
-    if 1 < workers && each < lines.len() {
-        let ranges = lines.len().div_ceil(each);
+    let count = list.count();
+    if 1 < workers && each < count {
+        let ranges = count.div_ceil(each);
         if let Ok(mut drafts) = drafts_of(alloc, workers.min(ranges)) {
-            return put_windows(rt, page, sink, lines, each, &mut drafts);
+            return put_windows(rt, page, sink, list, each, &mut drafts);
         }
     }
-    put_lines(page, sink, lines)
+    list.put_range(page, sink, 0, count)
 }
 
-/// The same as `put_plan`, the text of the lines made by so many threads at once, from 1 to 64, each of so many lines
-/// at a time, from 1 to 65,536. At most 8 MB a thread are made before they are sent, for which room is taken at the
-/// start; a longer text is sent as it is made, and so are all where there is no such room.
+/// The same as `put_plan`, the text of the lines made by so many threads at once, each of so many lines at a time, as
+/// `put_list_by_workers` does it.
 #[tactic(auto, unfolding(crate::specs::PlanTexts::plan_text))]
 pub fn put_plan_by_workers<R: Threads + Sync, S: Sink>(
     rt: &R,
@@ -232,6 +234,6 @@ pub fn put_plan_by_workers<R: Threads + Sync, S: Sink>(
     requires each { (0 < each) × (each ≤ 65536) }
     ensures { Sent S.taken S.may_fail sink.old page.old result sink.new page.new (plan_text lines.now) }
 {
-    put_lines_by_workers(rt, alloc, page, sink, lines, workers, each)?;
+    put_list_by_workers(rt, alloc, page, sink, lines, workers, each)?;
     put_totals(page, sink, lines, deletes)
 }

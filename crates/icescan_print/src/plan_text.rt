@@ -1,6 +1,6 @@
 //! The text of a plan, sent to a sink piece by piece.
 
-ghost use Rattle.std.specs.Prelude.{◌≡◌, ◌∷◌, ◌<◌, Some, length, slice_get, sum_by};
+ghost use Rattle.std.specs.Prelude.{◌≡◌, ◌∷◌, ◌<◌, Some, length, map, slice_get, sum_by};
 ghost use Rattle.std.specs.List.{flat_map};
 ghost use Rattle.std.specs.Fmt.{signed_decimal};
 ghost use Rattle.ice_state.specs.Lines.{OwnedLine};
@@ -15,6 +15,7 @@ use crate::endings::{put_int_before, put_long_before, put_number_before};
 use crate::made_deletes::{MadeDeletes, put_made_deletes};
 use crate::page::Page;
 use crate::sink::{Sink, SinkFault};
+use crate::text_list::TextList;
 use ice_state::{Line, Lines, PlanFile, PlanFiles};
 
 /// How many lines of delete files a plan has. A delete file has a line for each data file that it applies to, so there
@@ -67,25 +68,22 @@ pub fn put_totals<S: Sink>(
 }
 
 /// Sends the text of a plan's lines.
-pub(crate) fn put_lines<S: Sink>(
-    page: &mut Page,
-    sink: &mut S,
-    lines: &Lines<'_>,
-) -> Result<(), SinkFault>
+fn put_lines<S: Sink>(page: &mut Page, sink: &mut S, lines: &Lines<'_>) -> Result<(), SinkFault>
     ensures { Sent S.taken S.may_fail sink.old page.old result sink.new page.new (flat_map line_text lines.now) }
 {
     put_some_lines(page, sink, lines, 0, lines.len())
 }
 
 /// Sends the text of so many of a plan's lines from a place on, or of those that there are.
-pub(crate) fn put_some_lines<S: Sink>(
+fn put_some_lines<S: Sink>(
     page: &mut Page,
     sink: &mut S,
     lines: &Lines<'_>,
     first: usize,
     count: usize,
 ) -> Result<(), SinkFault>
-    ensures { Sent S.taken S.may_fail sink.old page.old result sink.new page.new (range_text lines.now first count) }
+    ensures { Sent S.taken S.may_fail sink.old page.old result sink.new page.new
+        (range_text (map line_text lines.now) first count) }
 {
     let end = lines.len().min(first.saturating_add(count));
     let mut made = MadeDeletes::new(page.alloc(), lines);
@@ -93,6 +91,27 @@ pub(crate) fn put_some_lines<S: Sink>(
         put_line(page, sink, &mut made, i)?;
     }
     Ok(())
+}
+
+impl<'a> TextList for Lines<'a> {
+    ghost use Rattle.std.specs.Prelude.{map};
+    ghost use Rattle.icescan_print.specs.PlanTexts.{line_text};
+
+    ghost texts = { λ lines. map line_text lines };
+
+    fn count(&self) -> usize {
+        self.len()
+    }
+
+    fn put_range<S: Sink>(
+        &self,
+        page: &mut Page,
+        sink: &mut S,
+        first: usize,
+        count: usize,
+    ) -> Result<(), SinkFault> {
+        put_some_lines(page, sink, self, first, count)
+    }
 }
 
 /// Sends the text of one of a plan's lines.

@@ -6,5 +6,5 @@ pub make_texts-returns : goal.make_texts-returns
 make_texts-returns g t c =
     let one : length c.make_beside.new.one ≡ 1 = omega
     (arith, c.make_beside.auto.one, c.split_at_mut-one.ensures.front_len) in
-    texts_both c.args.lines.now c.args.first c.args.each c.make_beside.new.one c.make_beside.new.others one
+    texts_both (g.T.TextList.texts c.args.list.now) c.args.first c.args.each c.make_beside.new.one c.make_beside.new.others one
     c.make_beside.ensures.one c.make_beside.ensures.others

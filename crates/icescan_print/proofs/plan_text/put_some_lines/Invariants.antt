@@ -1,4 +1,5 @@
-use Rattle.std.proofs.Common.{◌≡◌, ◌≤◌, ◌-◌, Ok}
+use Rattle.std.proofs.Common.{◌≡◌, ◌≤◌, ◌-◌, Ok, map}
+use Rattle.icescan_print.specs.PlanTexts.{line_text}
 use Rattle.icescan_print.specs.Ranges.{range_text}
 use Rattle.icescan_print.specs.Written.{Sent}
 use Rattle.icescan_print.proofs.plan_text.put_some_lines.Given as goal
@@ -10,5 +11,5 @@ invariant-loop-i g l = record {
   from : l.first ≤ l.i;
   upto : l.i - l.first ≤ l.count;
   sent : Sent g.S.Sink.taken g.S.Sink.may_fail l.fn.sink l.fn.page (Ok tt) l.sink l.page
-      (range_text l.lines l.first (l.i - l.first));
+      (range_text (map line_text l.lines) l.first (l.i - l.first));
 }
