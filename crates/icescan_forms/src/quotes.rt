@@ -1,6 +1,6 @@
 //! Texts within JSON's quotes.
 
-ghost use Rattle.std.specs.Prelude.{◌≡◌, ◌<◌, ◌≤◌, false, Ok, Err, Some, None, IfOk, IfErr, length, take, slice_index};
+ghost use Rattle.std.specs.Prelude.{◌≡◌, ◌<◌, ◌≤◌, true, false, Ok, Err, Some, None, IfOk, IfErr, length, take, slice_index};
 ghost use Rattle.std.specs.Prelude.{if◌then◌else◌, nat_lt};
 ghost use Rattle.std.specs.Char.{digit_char};
 ghost use Rattle.json.specs.Print.{escape, escape_byte, escape_letter};
@@ -39,13 +39,39 @@ fn put_front<S: Sink>(page: &mut Page, sink: &mut S, bytes: &[u8]) -> Result<usi
     Ok(plain)
 }
 
+/// How many bytes are looked at together.
+const BLOCK: usize = 16;
+
+/// Whether all of the bytes stand as they are. No branch stands between them, so that a processor looks at many at once.
+fn are_plain(bytes: &[u8]) -> bool
+    ensures { result ≡ true → escape bytes.now ≡ bytes.now }
+{
+    let mut plain = true;
+    'bytes: for i in 0..bytes.len() {
+        plain &= is_plain(bytes[i]);
+    }
+    plain
+}
+
+/// How many bytes stand in the blocks before the first in which one has to be escaped.
+fn count_plain_blocks(bytes: &[u8]) -> usize
+    ensures within { result ≤ length bytes.now }
+    ensures plain { escape (take result bytes.now) ≡ take result bytes.now }
+{
+    let mut count = 0;
+    while bytes.len() - count >= BLOCK && are_plain(&bytes[count..count + BLOCK]) {
+        count += BLOCK;
+    }
+    count
+}
+
 /// How many bytes stand before the first that has to be escaped.
 fn count_plain(bytes: &[u8]) -> usize
     ensures within { result ≤ length bytes.now }
     ensures plain { escape (take result bytes.now) ≡ take result bytes.now }
     ensures stops { result < length bytes.now → is_plain (slice_index bytes.now result) ≡ false }
 {
-    let mut count = 0;
+    let mut count = count_plain_blocks(bytes);
     while count < bytes.len() && is_plain(bytes[count]) {
         count += 1;
     }
@@ -77,7 +103,7 @@ fn put_escape<S: Sink>(page: &mut Page, sink: &mut S, byte: u8) -> Result<(), Si
 fn is_plain(byte: u8) -> bool
     ensures { result ≡ is_plain byte }
 {
-    b' ' <= byte && byte != b'"' && byte != b'\\'
+    (b' ' <= byte) & (byte != b'"') & (byte != b'\\')
 }
 
 /// The letter of the short escape that a byte has.
