@@ -5,7 +5,7 @@ pub mod ReadBack
 pub mod Fitting
 pub mod Tellings
 pub mod TellingsWhole
-pub mod Tasks
+pub mod TaskTexts
 pub mod Points
 pub mod Marks
 pub mod Narrowed

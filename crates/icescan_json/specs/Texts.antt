@@ -1,9 +1,9 @@
 -- The text of a plan's JSON, as it is written. (10 is the line feed.) No public contract cites the words but json_text.
-use Rattle.std.specs.Prelude.{◌≡◌, ℕ, List, [], ◌∷◌, ◌++◌, codes, Option, Some, None}
+use Rattle.std.specs.Prelude.{◌≡◌, ℕ, suc, nat_lt, List, [], ◌∷◌, ◌++◌, codes, Option, Some, None}
 use Rattle.std.specs.Fmt.{decimal, signed_decimal}
 use Rattle.json.specs.Print.{quoted}
 use Rattle.serde_json.specs.Data.{Data}
-use Rattle.serde_json.specs.Written.{compact_text}
+use Rattle.serde_json.specs.Written.{comma_if, compact_text}
 use Rattle.ice_value.specs.declared.cell.Cell.{Cell}
 use Rattle.ice_value.specs.declared.column_type.ColumnType.{ColumnType}
 use Rattle.ice_value.specs.declared.file_content.FileContent.{FileContent}
@@ -43,6 +43,10 @@ cells_text types cells = each_from (λ i c. compact_text (cell_json (type_at typ
 abbrev pub format_text : Option (List ℕ) → List ℕ
 format_text None = []
 format_text (Some name) = codes ",\"file-format\":" ++ quoted name
+
+-- what stands before the path of a file of this kind
+abbrev pub before_path : FileContent → List ℕ
+before_path kind = codes "{\"content\":\"" ++ (content_name kind ++ codes "\",\"file-path\":")
 
 -- a file's path, and what it is
 unfoldable pub file_head : Entry → List ℕ
@@ -93,8 +97,22 @@ task_texts types residual [] places = []
 task_texts types residual (x ∷ xs) [] = []
 task_texts types residual (x ∷ xs) (p ∷ ps) = task_text types residual x p ∷ task_texts types residual xs ps
 
+-- texts, each but the first with a comma before it, where the first has this place
+abbrev pub with_commas : ℕ → List (List ℕ) → List (List ℕ)
+with_commas n [] = []
+with_commas n (t ∷ ts) = (comma_if (nat_lt 0 n) ++ t) ∷ with_commas (suc n) ts
+
+-- the tasks as they stand in their list
+abbrev pub listed_tasks : List SpecTypes → List ℕ → PlanPlaces → List (List ℕ)
+listed_tasks types residual p = with_commas 0 (task_texts types residual p.files p.places)
+
 abbrev pub tasks_text : List SpecTypes → List ℕ → PlanPlaces → List ℕ
 tasks_text types residual p = each_from (λ _ t. t) 0 (task_texts types residual p.files p.places)
+
+-- the text before the tasks
+abbrev pub front_text : List SpecTypes → List Entry → List ℕ
+front_text types deletes = codes "{\"status\":\"completed\",\"delete-files\":[" ++ (deletes_text types deletes
+    ++ codes "],\"file-scan-tasks\":[")
 
 -- the text of the whole
 abbrev pub plan_text : List SpecTypes → List ℕ → PlanPlaces → List ℕ

@@ -5,52 +5,42 @@ ghost use Rattle.std.specs.Option.{option_copied};
 ghost use Rattle.json.specs.Print.{escape};
 ghost use Rattle.serde_json.specs.Written.{compact_text};
 ghost use Rattle.icescan_print.specs.Written.{Sent};
-ghost use Rattle.icescan_json.specs.PlanJson.{content_name, data_json, delete_json, format_name};
-ghost use Rattle.icescan_json.specs.Texts.{file_head, file_partition, file_sizes, file_text, format_text, kind_text};
+ghost use Rattle.icescan_json.specs.PlanJson.{data_json, delete_json, format_name};
+ghost use Rattle.icescan_json.specs.Texts.{before_path, file_head, file_partition, file_sizes, file_text, format_text, kind_text};
 ghost use Rattle.icescan_json.specs.Texts.{referenced_text};
 
 use crate::types::{SpecTypes, types_of};
 use crate::values::put_cells;
 use ice_state::PlanFile;
-use ice_value::FileContent;
+use ice_value::{FileContent, FileFormat};
 use icescan_forms::{put_ids, put_quoted};
 use icescan_print::{Page, Sink, SinkFault};
 
-fn content_name(content: FileContent) -> &'static [u8]
-    ensures { result.now ≡ content_name content }
+/// What stands before the path of a file of this kind.
+fn before_path(content: FileContent) -> &'static [u8]
+    ensures { result.now ≡ before_path content }
 {
     match content {
-        FileContent::Data => b"data",
-        FileContent::PositionDeletes => b"position-deletes",
-        FileContent::EqualityDeletes => b"equality-deletes",
+        FileContent::Data => b"{\"content\":\"data\",\"file-path\":",
+        FileContent::PositionDeletes => b"{\"content\":\"position-deletes\",\"file-path\":",
+        FileContent::EqualityDeletes => b"{\"content\":\"equality-deletes\",\"file-path\":",
     }
 }
 
-/// The name of a file's format, where it is known.
-fn format_name(file: &PlanFile<'_>) -> Option<&'static [u8]>
-    ensures { option_copied result ≡ format_name file.now }
+/// The member of a file's format, where it is known.
+#[tactic(auto, unfolding(json::specs::Print::escape_byte))]
+fn format_text(file: &PlanFile<'_>) -> &'static [u8]
+    ensures { result.now ≡ format_text (format_name file.now) }
 {
     match file.format() {
-        Some(format) => Some(format.name().as_bytes()),
-        None => None,
-    }
-}
-
-/// Sends the member of a file's format, where it is known.
-fn put_format<S: Sink>(page: &mut Page, sink: &mut S, file: &PlanFile<'_>) -> Result<(), SinkFault>
-    ensures { Sent S.taken S.may_fail sink.old page.old result sink.new page.new (format_text (format_name file.now)) }
-{
-    match format_name(file) {
-        Some(name) => {
-            page.put(sink, b",\"file-format\":")?;
-            put_quoted(page, sink, name)
-        }
-        None => Ok(()),
+        Some(FileFormat::Avro) => b",\"file-format\":\"avro\"",
+        Some(FileFormat::Orc) => b",\"file-format\":\"orc\"",
+        Some(FileFormat::Parquet) => b",\"file-format\":\"parquet\"",
+        None => b"",
     }
 }
 
 /// Sends a file's path, and what it is.
-#[tactic(auto, unfolding(crate::specs::Texts::file_head))]
 fn put_file_head<S: Sink>(
     page: &mut Page,
     sink: &mut S,
@@ -58,11 +48,9 @@ fn put_file_head<S: Sink>(
 ) -> Result<(), SinkFault>
     ensures { Sent S.taken S.may_fail sink.old page.old result sink.new page.new (file_head file.now) }
 {
-    page.put(sink, b"{\"content\":\"")?;
-    page.put(sink, content_name(file.content()))?;
-    page.put(sink, b"\",\"file-path\":")?;
+    page.put(sink, before_path(file.content()))?;
     put_quoted(page, sink, file.path())?;
-    put_format(page, sink, file)
+    page.put(sink, format_text(file))
 }
 
 /// Sends a file's partition.

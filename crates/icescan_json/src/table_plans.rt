@@ -8,7 +8,7 @@ ghost use Rattle.icescan_requests.specs.Plans.{OnRefusal, TellsTheTruthAt, over_
 ghost use Rattle.ice_state.specs.Contents.{World};
 ghost use Rattle.icescan_text.specs.Reads.{MayEnd};
 
-use crate::typed::{TypedPlan, write_json};
+use crate::typed::{TypedPlan, write_json_by_workers};
 use ice_desk::Files;
 use icescan_print::Sink;
 use icescan_requests::{OpenGate, plan_table, plans_of_true_summaries};
@@ -46,8 +46,8 @@ fn typed_table_at<R: Threads + Sync, F: Files + Sync>(
 /// Writes the plan that a request asks for as JSON, in one line: the answer of an Iceberg REST catalog to a scan that
 /// was planned. The table is the one whose metadata is in the file at a path. Each task has the whole filter of the
 /// request, which the rows of its file are still to meet; `true` where there is none. So many workers, from 1 to 64,
-/// read and take the wanted manifests at once, each in a thread of its own where one can be started. The JSON is written
-/// by one.
+/// read and take the wanted manifests at once, and make the text of ranges of tasks at once, each in a thread of its own
+/// where one can be started.
 ///
 /// The refusals and their order are those of `icescan_requests::plan_file`: `Workers` comes before all others, and then
 /// nothing is read. After any refusal but `Write` nothing was written, and after that one a front of the text was.
@@ -84,5 +84,5 @@ pub fn plan_file_json<R: Threads + Sync, F: Files + Sync, W: Sink>(
     let workers = Workers::of(workers)?;
     plans_of_true_summaries();
     let typed = typed_table_at(rt, alloc, files, path, request, workers)?;
-    write_json(alloc, &typed, output)
+    write_json_by_workers(rt, alloc, &typed, workers, output)
 }

@@ -7,15 +7,16 @@ ghost use Rattle.icescan_json.specs.Types.{spec_types};
 ghost use Rattle.icescan_print.specs.Written.{Appends, AppendsFront};
 
 use crate::expressions::Expression;
-use crate::plan::write_typed_plan;
+use crate::plan::{write_typed_plan, write_typed_plan_by_workers};
 use crate::residuals::planned_expression;
 use crate::types::{SpecTypes, types_of_specs};
 use contract_words::Items;
 use ice_state::OwnedPlan;
 use icescan_print::Sink;
 use icescan_requests::TablePlan;
-use icescan_text::{Request, RunFault};
+use icescan_text::{Request, RunFault, Workers};
 use std::alloc::{AllocError, Global};
+use std::thread::Threads;
 
 /// A plan, the types by which the partition values of its files are written as JSON, and the filter that was asked.
 #[derive(Debug, Drop)]
@@ -70,6 +71,33 @@ pub(crate) fn write_json<W: Sink>(
         typed.types.as_slice(),
         &typed.residual,
         &typed.plan.lines(),
+        output,
+    )
+}
+
+/// The same as `write_json`, the text of ranges of tasks made by so many workers.
+pub(crate) fn write_json_by_workers<R: Threads + Sync, W: Sink>(
+    rt: &R,
+    alloc: Global,
+    typed: &TypedPlan,
+    workers: Workers,
+    output: &mut W,
+) -> Result<(), RunFault>
+    ensures all { OnOk result ((text : List ℕ) × IsJsonOfPlan typed.now text
+        × Appends (W.taken output.old) (W.taken output.new) text) }
+    ensures causes { IfErr result (λ e. (e ≡ RunFault.Memory) ⊎ (e ≡ RunFault.Write)) }
+    ensures nothing { IsErrOf result RunFault.Memory → W.taken output.new ≡ W.taken output.old }
+    ensures front { IsErrOf result RunFault.Write → (text : List ℕ) × IsJsonOfPlan typed.now text
+        × AppendsFront (W.taken output.old) (W.taken output.new) text }
+    ensures cause { IsErrOf result RunFault.Write → W.may_fail output.old }
+{
+    write_typed_plan_by_workers(
+        rt,
+        alloc,
+        typed.types.as_slice(),
+        &typed.residual,
+        &typed.plan.lines(),
+        workers,
         output,
     )
 }

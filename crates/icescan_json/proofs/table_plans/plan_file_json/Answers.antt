@@ -78,34 +78,34 @@ returns-in_err-typed-clause-text g c =
 pub returns-clause-workers : goal.returns-clause-workers
 returns-clause-workers g c =
     let given = c.in_ok-workers.ensures.given in (
-      λ is. absurd (writes_whoever_works c.write_json.result c.write_json.ensures.causes is),
+      λ is. absurd (writes_whoever_works c.write_json_by_workers.result c.write_json_by_workers.ensures.causes is),
       λ out. absurd (in_range c.args.workers given.1 given.2 out),
     )
 
 pub returns-clause-wanted : goal.returns-clause-wanted
 returns-clause-wanted g c =
     let given = c.in_ok-workers.ensures.given in
-    let wrote = c.write_json.ensures in
+    let wrote = c.write_json_by_workers.ensures in
     λ world told.
-    written_json c.in_ok-typed.typed c.write_json.result (g.W.Sink.may_fail c.args.output.now) _ _ wrote.all wrote.front
+    written_json c.in_ok-typed.typed c.write_json_by_workers.result (g.W.Sink.may_fail c.args.output.now) _ _ wrote.all wrote.front
     _ _ (rw given.0 at (c.in_ok-typed.ensures.found world told)) wrote.causes wrote.cause
 
 pub returns-clause-plan : goal.returns-clause-plan
 returns-clause-plan g c =
     let given = c.in_ok-workers.ensures.given in
-    let wrote = c.write_json.ensures in
+    let wrote = c.write_json_by_workers.ensures in
     λ world told truth.
     let same = same_typed_at c.plans_of_true_summaries.ensures world c.args.path.now c.args.request.now c.args.workers
     truth
     in
-    written_json c.in_ok-typed.typed c.write_json.result (g.W.Sink.may_fail c.args.output.now) _ _ wrote.all wrote.front
+    written_json c.in_ok-typed.typed c.write_json_by_workers.result (g.W.Sink.may_fail c.args.output.now) _ _ wrote.all wrote.front
     _ _ (same ∙ (rw given.0 at (c.in_ok-typed.ensures.found world told))) wrote.causes wrote.cause
 
 pub returns-clause-text : goal.returns-clause-text
 returns-clause-text g c =
-    let wrote = c.write_json.ensures in
-    writes_json c.in_ok-typed.typed c.write_json.result (g.W.Sink.may_fail c.args.output.now) _ _ wrote.all wrote.front
+    let wrote = c.write_json_by_workers.ensures in
+    writes_json c.in_ok-typed.typed c.write_json_by_workers.result (g.W.Sink.may_fail c.args.output.now) _ _ wrote.all wrote.front
 
 pub returns-clause-given : goal.returns-clause-given
 returns-clause-given g c =
-    json_that _ c.in_ok-typed.typed c.write_json.result _ _ c.in_ok-typed.ensures.given c.write_json.ensures.all
+    json_that _ c.in_ok-typed.typed c.write_json_by_workers.result _ _ c.in_ok-typed.ensures.given c.write_json_by_workers.ensures.all

@@ -1,8 +1,8 @@
 use Rattle.std.proofs.Common.{length}
 use Rattle.icescan_print.proofs.Sends.{sent_less, sent_more}
 use Rattle.icescan_json.proofs.Marks.{equalities_within, positions_within}
-use Rattle.icescan_json.proofs.Tasks.{task_moved}
-use Rattle.icescan_json.proofs.plan.put_task.Goals as goal
+use Rattle.icescan_json.proofs.TaskTexts.{task_moved}
+use Rattle.icescan_json.proofs.tasks.put_task.Goals as goal
 
 pub put_references-requires-clause-positions : goal.put_references-requires-clause-positions
 put_references-requires-clause-positions g c = rw c.requires.marked (positions_within (length c.args.plan.now.deletes)

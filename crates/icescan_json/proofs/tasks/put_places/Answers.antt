@@ -2,7 +2,7 @@ use Rattle.std.proofs.Common.{◌<◌, arith, get_or, length}
 use Rattle.std.specs.Fmt.{decimal}
 use Rattle.icescan_forms.proofs.Lists.{there, sent_one, sent_failed}
 use Rattle.icescan_json.specs.Named.{rank}
-use Rattle.icescan_json.proofs.plan.put_places.Goals as goal
+use Rattle.icescan_json.proofs.tasks.put_places.Goals as goal
 
 pub loop-i-preserved : goal.loop-i-preserved
 loop-i-preserved g c =

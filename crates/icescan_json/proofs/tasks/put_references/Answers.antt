@@ -1,7 +1,7 @@
 use Rattle.std.proofs.Common.{◌+◌, ◌<◌, arith, length}
 use Rattle.icescan_print.proofs.Sends.{sent_less, sent_more}
-use Rattle.icescan_json.proofs.Tasks.{references_split}
-use Rattle.icescan_json.proofs.plan.put_references.Goals as goal
+use Rattle.icescan_json.proofs.TaskTexts.{references_split}
+use Rattle.icescan_json.proofs.tasks.put_references.Goals as goal
 
 pub returns-in_err-put : goal.returns-in_err-put
 returns-in_err-put g c =

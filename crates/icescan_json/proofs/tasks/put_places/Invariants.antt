@@ -3,7 +3,7 @@ use Rattle.std.specs.Fmt.{decimal}
 use Rattle.icescan_forms.specs.Pieces.{each_from}
 use Rattle.icescan_print.specs.Written.{Sent}
 use Rattle.icescan_json.specs.Named.{rank}
-use Rattle.icescan_json.proofs.plan.put_places.Given as goal
+use Rattle.icescan_json.proofs.tasks.put_places.Given as goal
 
 -- the texts so far were sent
 abbrev pub invariant-loop-i : goal.invariant-loop-i
