@@ -1,24 +1,18 @@
 -- How often a path was counted, in a map whose keys are byte strings.
-use Rattle.std.proofs.Common.{◌≡◌, ℕ, ◌+◌, Ordering, Bool, true, false, cond, List, Option, Some, Vec, Global}
-use Rattle.std.proofs.Common.{refl, sym, ap, ◌∙◌, subst, arith}
+use Rattle.std.proofs.Common.{◌≡◌, ℕ, ◌+◌, Bool, true, false, cond, List, Option, Some, Vec, Global}
+use Rattle.std.proofs.Common.{refl, sym, ap, ◌∙◌, subst, arith, BuildHasherDefault, FoldHasher}
 use Rattle.std.specs.Prelude.{unwrap_or}
-use Rattle.std.specs.BTreeMap as tree
-use Rattle.std.specs.BTreeMap.{BTreeMap}
-use Rattle.std.specs.Cmp.{eq_by_cmp_equiv}
-use Rattle.std.specs.Cmp.Lexicographic.{slice_cmp, nat_list_cmp_total, nat_list_eq_equiv}
+use Rattle.std.specs.HashMap as hash
+use Rattle.std.specs.HashMap.{HashMap}
+use Rattle.std.specs.Cmp.Lexicographic.{nat_list_eq_equiv}
 use Rattle.std.specs.Map.{AreApart, IsKeyTest, KeepsOthers, lookup}
-use Rattle.std.specs.Ordering.{nat_cmp, is_eq}
 use Rattle.std.specs.Str.{bytes_eq}
-use Rattle.std.proofs.lemmas.Map.Text.{is_eq-slice_cmp}
 use Rattle.std.proofs.lemmas.Slice.Eq.{bytes_eq-Decides}
 use Rattle.icescan_explain.specs.Applying.{times_in}
 use Rattle.icescan_explain.specs.declared.applied.Applied.{Applied}
 
-apart : (bs cs ks : List ℕ) → bytes_eq bs cs ≡ false → is_eq (slice_cmp nat_cmp bs ks) ≡ true
-    → is_eq (slice_cmp nat_cmp cs ks) ≡ false
-apart bs cs ks n y =
-    is_eq-slice_cmp cs ks ∙ nat_list_eq_equiv.symm cs ks
-    ∙ sym (nat_list_eq_equiv.congr bs ks cs (sym (is_eq-slice_cmp bs ks) ∙ y)) ∙ n
+apart : (bs cs ks : List ℕ) → bytes_eq bs cs ≡ false → bytes_eq bs ks ≡ true → bytes_eq cs ks ≡ false
+apart bs cs ks n y = nat_list_eq_equiv.symm cs ks ∙ sym (nat_list_eq_equiv.congr bs ks cs y) ∙ n
 
 module _ {K : Type 0} (eq : K → K → Bool) (test : K → Bool) where
   other_entries : {X : Type 0} (old new : List (K × X)) → KeepsOthers eq test old new → (other : K → Bool)
@@ -27,17 +21,17 @@ module _ {K : Type 0} (eq : K → K → Bool) (test : K → Bool) where
   other_entries old new h = h
 
 abbrev pub Keyed : Type 0
-Keyed = BTreeMap (Vec ℕ Global) ℕ
+Keyed = HashMap (Vec ℕ Global) ℕ (BuildHasherDefault FoldHasher)
 
-abbrev pub order : Vec ℕ Global → Vec ℕ Global → Ordering
-order x y = slice_cmp nat_cmp x.items y.items
+abbrev pub same : Vec ℕ Global → Vec ℕ Global → Bool
+same x y = bytes_eq x.items y.items
 
 abbrev pub at_bytes : Keyed → List ℕ → Option ℕ
-at_bytes m bs = tree.get_by (λ k. slice_cmp nat_cmp bs k.items) m
+at_bytes m bs = hash.get_by (λ k. bytes_eq bs k.items) m
 
 -- what a map has at any bytes, where it has something new at some
 pub updates : (bs : List ℕ) (m n : Keyed) (w : Option ℕ)
-    → tree.UpdatesBy order (λ k. slice_cmp nat_cmp bs k.items) m n w
+    → hash.UpdatesBy same (λ k. bytes_eq bs k.items) m n w
     → (cs : List ℕ) → at_bytes n cs ≡ cond (bytes_eq cs bs) w (at_bytes m cs)
 updates bs m n w h cs = go (bytes_eq bs cs) refl where
   turned : bytes_eq cs bs ≡ bytes_eq bs cs
@@ -47,11 +41,11 @@ updates bs m n w h cs = go (bytes_eq bs cs) refl where
   go true e = let same : bs ≡ cs = (bytes_eq-Decides bs cs).0 e in
       rw (turned, e) (subst (λ q. at_bytes n q ≡ w) same h.1)
   go false e = rw (turned, e)
-      (other_entries _ _ _ _ h.3 _ (λ x y. (eq_by_cmp_equiv nat_list_cmp_total).congr cs x.items y.items)
+      (other_entries _ _ _ _ h.3 _ (λ x y. nat_list_eq_equiv.congr cs x.items y.items)
       (λ k. apart bs cs k.items e))
 
 pub more : (bs : List ℕ) (n : ℕ) (a b : Applied)
-    → tree.UpdatesBy order (λ k. slice_cmp nat_cmp bs k.items) a.counts b.counts (Some (times_in a bs + n))
+    → hash.UpdatesBy same (λ k. bytes_eq bs k.items) a.counts b.counts (Some (times_in a bs + n))
     → (cs : List ℕ) → times_in b cs ≡ times_in a cs + cond (bytes_eq cs bs) n 0
 more bs n a b h cs = go (bytes_eq cs bs) refl where
   has : at_bytes b.counts cs ≡ cond (bytes_eq cs bs) (Some (times_in a bs + n)) (at_bytes a.counts cs)

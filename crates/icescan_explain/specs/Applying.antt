@@ -1,8 +1,6 @@
 -- To how many data files of a plan a delete file applies: so often the plan names it.
 use Rattle.std.specs.Prelude.{◌≡◌, ℕ, ◌+◌, List, [], ◌∷◌, filter, if◌then◌else◌, length, sum_by, unwrap_or}
-use Rattle.std.specs.BTreeMap.{get_by}
-use Rattle.std.specs.Cmp.Lexicographic.{slice_cmp}
-use Rattle.std.specs.Ordering.{nat_cmp}
+use Rattle.std.specs.HashMap.{get_by}
 use Rattle.std.specs.Str.{bytes_eq}
 use Rattle.ice_manifest_reading.specs.declared.entry.Entry.{Entry}
 use Rattle.ice_state.specs.Lines.{OwnedLine}
@@ -28,7 +26,7 @@ times_at path (d ∷ ds) [] = 0
 times_at path (d ∷ ds) (t ∷ ts) = (if bytes_eq path d.file.path then t else 0) + times_at path ds ts
 
 abbrev pub times_in : Applied → List ℕ → ℕ
-times_in a path = unwrap_or (get_by (λ k. slice_cmp nat_cmp path k.items) a.counts) 0
+times_in a path = unwrap_or (get_by (λ k. bytes_eq path k.items) a.counts) 0
 
 -- the counts are those of a plan
 abbrev pub CountsOf : Applied → List OwnedLine → Type 0

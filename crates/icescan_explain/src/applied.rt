@@ -10,12 +10,12 @@ ghost use Rattle.icescan_explain.specs.Applying.{CountsOf, applied, named, times
 
 use ice_state::{Lines, PlacedFiles};
 use std::alloc::{AllocError, Global};
-use std::collections::BTreeMap;
+use std::collections::HashMap;
 
 /// How often a plan names each delete file, by the bytes of its path: once for each data file that it applies to.
 #[derive(Drop)]
 pub struct Applied {
-    counts: BTreeMap<Vec<u8>, u128>,
+    counts: HashMap<Vec<u8>, u128>,
 }
 
 impl Applied {
@@ -50,7 +50,7 @@ impl Applied {
         let plan = lines.placed_files();
         let times = times_by_place(alloc, &plan)?;
         let mut applied = Applied {
-            counts: BTreeMap::new(alloc),
+            counts: HashMap::new(alloc),
         };
         'deletes: for i in 0..plan.count_deletes() {
             applied.add(alloc, plan.delete(i).path(), times[i])?;

@@ -1,12 +1,10 @@
 use Rattle.std.proofs.Common.{◌≡◌, ◌+◌, ◌∙◌, arith, cond, Some, None, ap, refl, subst, sym}
 use Rattle.std.specs.Prelude.{IsSome, unwrap_or}
-use Rattle.std.specs.BTreeMap as tree
-use Rattle.std.specs.Cmp.Lexicographic.{slice_cmp}
-use Rattle.std.specs.Ordering.{nat_cmp}
+use Rattle.std.specs.HashMap as hash
 use Rattle.std.specs.Str.{bytes_eq}
 use Rattle.icescan_explain.specs.Applying.{times_in}
 use Rattle.icescan_explain.specs.declared.applied.Applied.{Applied}
-use Rattle.icescan_explain.proofs.Times.{at_bytes, more, order}
+use Rattle.icescan_explain.proofs.Times.{at_bytes, more, same as same_key}
 use Rattle.icescan_explain.proofs.applied.Applied.add.Goals as goal
 
 pub returns-in-Some : goal.returns-in-Some
@@ -20,7 +18,7 @@ returns-in-Some c = λ q.
     ap (λ o. unwrap_or o 0 + c.args.times) there in
     let written = (c.get_mut.follows.holds (count + c.args.times)).3 (subst IsSome there refl) in
     more path c.args.times old new
-    (subst (λ n. tree.UpdatesBy order (λ k. slice_cmp nat_cmp path k.items) old.counts new.counts
+    (subst (λ n. hash.UpdatesBy same_key (λ k. bytes_eq path k.items) old.counts new.counts
     (Some n)) same written) q
 
 pub returns : goal.returns
@@ -34,6 +32,6 @@ returns c = λ q.
     (omega arith) ∙ ap (λ o. unwrap_or o 0 + c.args.times) none ∙ ap (λ bs. times_in old bs + c.args.times) (sym same) in
     subst (λ bs. times_in new q ≡ times_in old q + cond (bytes_eq q bs) c.args.times 0) same
     (more key.items c.args.times old new
-    (subst (λ n. tree.UpdatesBy order (λ k. slice_cmp nat_cmp key.items k.items) old.counts new.counts (Some n)) first
-    (subst (λ m. tree.UpdatesBy order (λ k. slice_cmp nat_cmp key.items k.items) m new.counts (Some c.args.times))
+    (subst (λ n. hash.UpdatesBy same_key (λ k. bytes_eq key.items k.items) old.counts new.counts (Some n)) first
+    (subst (λ m. hash.UpdatesBy same_key (λ k. bytes_eq key.items k.items) m new.counts (Some c.args.times))
     c.get_mut.follows.holds-at-none c.in_ok-insert.ensures.updates)) q)
