@@ -2,8 +2,7 @@
 
 use crate::parameter::Parameter;
 use crate::parameters::{
-    BUNDLE, DIR, EXPLAIN_WORKERS, FILTER, LINES_FORMAT, METADATA, PREFIX, QUIET, REF, RELAX,
-    SNAPSHOT,
+    BUNDLE, DIR, FILTER, LINES_FORMAT, METADATA, PREFIX, QUIET, REF, RELAX, SNAPSHOT, WORKERS,
 };
 
 pub const EXPLAIN: &[Parameter] = &[
@@ -12,7 +11,7 @@ pub const EXPLAIN: &[Parameter] = &[
     SNAPSHOT,
     FILTER,
     RELAX,
-    EXPLAIN_WORKERS,
+    WORKERS,
     LINES_FORMAT,
     BUNDLE,
     DIR,

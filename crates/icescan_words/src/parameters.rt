@@ -245,12 +245,6 @@ pub const WORKERS: Parameter = Parameter {
     help: "How many threads read manifests, 1 to 64",
 };
 
-/// The same, where one worker reads all.
-pub const EXPLAIN_WORKERS: Parameter = Parameter {
-    help: "As for `plan`; one worker reads all",
-    ..WORKERS
-};
-
 /// The snapshot from which changes are told, and the one up to which they are.
 pub const FROM: Parameter = Parameter {
     name: "from",
