@@ -296,7 +296,7 @@ pub fn audit_all<H, S: Folders, P: Progress, R: Read, W: Sink>(
 
 /// Writes the plan that is asked of a table, by so many workers, with what became of each manifest and each live file,
 /// in a form.
-pub fn explain<H, S: Folders, P: Progress, R: Read, W: Sink>(
+pub fn explain<H: Threads + Sync, S: Folders + Sync, P: Progress + Sync, R: Read, W: Sink>(
     system: &System<'_, H, S, P>,
     table: &TableAt<'_>,
     request: &Request,
@@ -318,7 +318,9 @@ pub fn explain<H, S: Folders, P: Progress, R: Read, W: Sink>(
 {
     let files = open_files(system, table.source, input)?;
     let path = table.path.as_str();
-    let answer = explain_file(system.alloc, &files, path, request, workers, format, output);
+    let host = system.host;
+    let alloc = system.alloc;
+    let answer = explain_file(host, alloc, &files, path, request, workers, format, output);
     drop(files);
     answer
 }

@@ -107,7 +107,8 @@ fn write_asked<H: Threads + Sync, S, P, F: Files + Sync, W: Sink>(
     match what {
         Relaxed::Plan => write_plan(system, files, path, request, format, workers, output),
         Relaxed::Explanation => {
-            explain_file(system.alloc, files, path, request, workers, format, output)
+            let host = system.host;
+            explain_file(host, system.alloc, files, path, request, workers, format, output)
         }
     }
 }

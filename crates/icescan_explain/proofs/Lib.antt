@@ -15,4 +15,5 @@ pub mod Planned
 pub mod FilesRead
 pub mod Rows
 pub mod MoreGiven
+pub mod Ranges
 mod Names

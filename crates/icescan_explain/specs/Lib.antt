@@ -9,5 +9,6 @@ pub mod Texts
 pub mod RowsTold
 pub mod Explanations
 pub mod Told
+pub mod ToldRanges
 pub mod AnyFiles
 pub mod JsonLines

@@ -4,6 +4,7 @@
 
 mod applied;
 mod blame;
+mod by_workers;
 mod columns;
 mod copies;
 mod counts;

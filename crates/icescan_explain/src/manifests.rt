@@ -18,8 +18,10 @@ ghost use Rattle.ice_state.specs.Specs.{spec_of};
 ghost use Rattle.icescan_text.specs.Reads.{MayEnd, all_present, file_in};
 ghost use Rattle.icescan_explain.specs.RowsTold.{AreFor, AreToldOf, IsScanFor, MayEndRow, is_wanted, lives_at};
 ghost use Rattle.icescan_explain.specs.RowsTold.{row_told, rows_told};
+ghost use Rattle.icescan_explain.specs.ToldRanges.{AreWantedFrom, TellsRows};
 ghost use Rattle.icescan_explain.specs.Told.{paths_kept, paths_of_data, paths_planned};
 
+use crate::by_workers::{Tellers, ToldRows};
 use crate::files::FileTests;
 use crate::tests::{FilterTests, SpecTests, row_verdict};
 use crate::verdict::Verdict;
@@ -194,42 +196,25 @@ fn tell_row<F: Files>(
 }
 
 /// What becomes of the manifests of these rows, in their order, and of the live files of those that are wanted, which
-/// are read and taken.
-fn tell_rows<F: Files>(
+/// are read and taken. The first of those that are wanted is the wanted row at a place.
+pub fn tell_rows<F: Files>(
     alloc: Global,
     files: &F,
     tests: &FilterTests,
     scan: &Scan,
+    first: usize,
     rows: &[Row],
-    state: &mut Partial,
-) -> Result<Vec<Verdict>, RunFault>
-    requires of_scan { IsOf scan.now state.old }
+) -> Result<ToldRows, RunFault>
     requires by { IsScanFor tests.now scan.now }
-    requires rows { scan.now.wanted ≡ filter (is_wanted tests.now) rows.now }
-    ensures of_scan { OnOk result (IsOf scan.now state.new) }
-    ensures told { (world : World) → F.world files.now ≡ Some world →
-        IfOk result (λ verdicts. verdicts.items ≡ rows_told tests.now world rows.now) }
-    ensures taken { (world : World) → F.world files.now ≡ Some world →
-        state.old ≡ content world scan.now (no_row scan.now) →
-        OnOk result (state.new ≡ content world scan.now (every_row scan.now)) }
-    ensures present { (world : World) → F.world files.now ≡ Some world →
-        OnOk result (all_present world scan.now.wanted ≡ Ok tt) }
-    ensures refused { (world : World) → F.world files.now ≡ Some world →
-        IfErr result (MayEnd (all_present world scan.now.wanted)
-        (EndsAt world (F.may_fail files.now) (paths_of scan.now.wanted)) ⊥) }
-    ensures read { IfOk result (λ verdicts. AreToldOf (F.gives files.now) tests.now rows.now verdicts.items) }
-    ensures kept { state.old ≡ replicate (length scan.now.wanted) None →
-        IfOk result (λ verdicts. paths_kept verdicts.items ≡ paths_of_data (kept_in state.new)) }
-    ensures absent { (path : List ℕ) → IsErrOf result (RunFault.Absent path) → HasAt (F.world files.now) path None }
-    ensures device { (path : List ℕ) → IsErrOf result (RunFault.Device path) → F.may_fail files.now path }
-    ensures write { IsErrOf result RunFault.Write → ⊥ }
-    ensures given { IsGiven (F.gives files.now) scan.now state.old →
-        OnOk result (IsGiven (F.gives files.now) scan.now state.new) }
-    ensures whole { OnOk result (untaken state.new scan.now.wanted ≡ []) }
+    requires rows { AreWantedFrom tests.now scan.now first rows.now }
+    requires few { first + length rows.now < 2 ^ 64 }
+    ensures { TellsRows (F.world files.now) (F.may_fail files.now) (F.gives files.now) tests.now scan.now first rows.now
+        result }
 {
+    let mut state = Partial::empty(alloc, scan)?;
     let mut verdicts = Vec::new(alloc);
     let mut bytes = Vec::new(alloc);
-    let mut next = 0;
+    let mut next = first;
     'rows: for row in rows {
         next = tell_row(
             alloc,
@@ -239,19 +224,24 @@ fn tell_rows<F: Files>(
             next,
             row,
             &mut bytes,
-            state,
+            &mut state,
             &mut verdicts,
         )?;
     }
-    Ok(verdicts)
+    Ok(ToldRows {
+        state,
+        verdicts: Items::from_vec(verdicts),
+    })
 }
 
-/// The plan of these rows, and what became of their manifests. The tests are those of the filter and the specs.
-pub fn explain_rows<F: Files>(
+/// The plan of these rows, and what became of their manifests, as these tell it. The tests are those of the filter and
+/// the specs.
+pub fn explain_rows<F: Files, T: Tellers<F>>(
     alloc: Global,
     files: &F,
     tests: &FilterTests,
     selected: SelectedRows,
+    tellers: &T,
 ) -> Result<Explanation, RunFault>
     requires { AreFor tests.now selected.specs selected.filter.parts }
     ensures planned { (world : World) → F.world files.now ≡ Some world →
@@ -273,11 +263,10 @@ pub fn explain_rows<F: Files>(
     let mut sorted = copied_rows(alloc, selected.rows.as_slice())?;
     sort_by_path(&mut sorted)?;
     let scan = selected.into_scan(alloc)?;
-    let mut state = Partial::empty(alloc, &scan)?;
-    let verdicts = tell_rows(alloc, files, tests, &scan, &sorted, &mut state)?;
-    let plan = state.into_plan(&scan)?;
+    let told = tellers.tell_all(alloc, files, tests, &scan, &sorted)?;
+    let plan = told.state.into_plan(&scan)?;
     Ok(Explanation {
         plan,
-        verdicts: Items::from_vec(verdicts),
+        verdicts: told.verdicts,
     })
 }

@@ -11,6 +11,7 @@ ghost use Rattle.ice_state.specs.Contents.{World};
 ghost use Rattle.icescan_text.specs.Reads.{MayEnd};
 ghost use Rattle.icescan_text.specs.Writes.{WroteOrRefused};
 
+use crate::by_workers::{Alone, ByWorkers, Tellers};
 use crate::columns::columns_in;
 use crate::json_lines::write_explanation_objects;
 use crate::lines::write_explanation_lines;
@@ -22,13 +23,15 @@ use icescan_print::Sink;
 use icescan_requests::select_rows;
 use icescan_text::{Request, RunFault, Workers, read_file};
 use std::alloc::Global;
+use std::thread::Threads;
 
-/// The plan that a request asks for, and what became of the snapshot's manifests and live files.
-fn explain_table<F: Files>(
+/// The plan that a request asks for, and what became of the snapshot's manifests and live files, as these tell it.
+fn explain_table<F: Files, T: Tellers<F>>(
     alloc: Global,
     files: &F,
     metadata: &[u8],
     request: &Request,
+    tellers: &T,
 ) -> Result<Explanation, RunFault>
     ensures answer { Explains (F.world files.now) (F.may_fail files.now) metadata.now request.now result }
     ensures read { IfOk result (IsAnExplanation (F.gives files.now) metadata.now request.now) }
@@ -40,7 +43,7 @@ fn explain_table<F: Files>(
     let columns = columns_in(alloc, &request.filter)?;
     let specs = selected.specs.as_slice();
     let tests = FilterTests::new(alloc, specs, &selected.filter, &columns)?;
-    explain_rows(alloc, files, &tests, selected)
+    explain_rows(alloc, files, &tests, selected, tellers)
 }
 
 /// Writes an explanation in a form and nothing else. All memory is taken before the first byte: it refuses when out of
@@ -57,6 +60,38 @@ fn write_explanation<S: Sink>(
         Format::Text => write_explanation_lines(alloc, explanation, sink),
         Format::Json => write_explanation_objects(alloc, explanation, sink),
     }
+}
+
+/// The same as `run_explain`, as these tell of the rows.
+fn run_explain_by<F: Files, T: Tellers<F>, W: Sink>(
+    alloc: Global,
+    files: &F,
+    metadata: &[u8],
+    request: &Request,
+    format: Format,
+    tellers: &T,
+    output: &mut W,
+) -> Result<(), RunFault>
+    // Over files that tell their world.
+    ensures written { (world : World) → F.world files.now ≡ Some world →
+        OnOk result (WroteExplanationAs format (explained world metadata.now request.now) (W.taken output.old)
+        (W.taken output.new)) }
+    ensures refused { (world : World) → F.world files.now ≡ Some world →
+        IfErr result (MayEnd (explained world metadata.now request.now)
+        (EndsAt world (F.may_fail files.now) (reads world metadata.now request.now)) (W.may_fail output.old)) }
+    ensures front { (world : World) → F.world files.now ≡ Some world → IsErrOf result RunFault.Write →
+        WroteExplanationFrontAs format (explained world metadata.now request.now) (W.taken output.old)
+        (W.taken output.new) }
+
+    // Over all files.
+    ensures text { WritesAnExplanation format (F.gives files.now) metadata.now request.now result (W.taken output.old)
+        (W.taken output.new) }
+    ensures refusal { OnRefusal (F.world files.now) (F.may_fail files.now) (W.may_fail output.old) result
+        (W.taken output.old) (W.taken output.new) }
+{
+    let explanation = explain_table(alloc, files, metadata, request, tellers)?;
+    write_explanation(alloc, &explanation, format, output)?;
+    Ok(())
 }
 
 /// Explains the plan that a request asks for, of the table whose metadata these are the bytes of: writes a line for
@@ -91,17 +126,17 @@ pub fn run_explain<F: Files, W: Sink>(
     ensures refusal { OnRefusal (F.world files.now) (F.may_fail files.now) (W.may_fail output.old) result
         (W.taken output.old) (W.taken output.new) }
 {
-    let explanation = explain_table(alloc, files, metadata, request)?;
-    write_explanation(alloc, &explanation, format, output)?;
-    Ok(())
+    run_explain_by(alloc, files, metadata, request, format, &Alone, output)
 }
 
-/// Explains the plan that a request asks for, of the table whose metadata is in the file at a path. All is read by one
-/// worker, whatever the number of workers.
+/// Explains the plan that a request asks for, of the table whose metadata is in the file at a path. So many workers read
+/// and take the manifests at once, each those of neighbouring rows in a thread of its own where one can be started. The
+/// text and the refusal are the same for every number of workers.
 ///
 /// The refusal is `Workers` where there are to be none, or more than 64; it comes before all others, and nothing is
 /// read. Then it is `Absent` where there is no such file, `Device` where reading it failed, else as `run_explain`'s.
-pub fn explain_file<F: Files, W: Sink>(
+pub fn explain_file<R: Threads + Sync, F: Files + Sync, W: Sink>(
+    rt: &R,
     alloc: Global,
     files: &F,
     path: &str,
@@ -134,7 +169,10 @@ pub fn explain_file<F: Files, W: Sink>(
     ensures refusal { OnRefusal (F.world files.now) (F.may_fail files.now) (W.may_fail output.old) result
         (W.taken output.old) (W.taken output.new) }
 {
-    Workers::of(workers)?;
+    let workers = Workers::of(workers)?;
     let metadata = read_file(alloc, files, path)?;
-    run_explain(alloc, files, &metadata, request, format, output)
+    let tellers = ByWorkers { rt, workers };
+    run_explain_by(
+        alloc, files, &metadata, request, format, &tellers, output,
+    )
 }

@@ -6,23 +6,23 @@ use Rattle.icescan_text.proofs.Enough.{in_range}
 use Rattle.icescan_explain.proofs.Telling.{ends_behind, explained_behind, no_metadata, no_workers}
 use Rattle.icescan_explain.proofs.running.explain_file.Goals as goal
 
-pub returns-in_err-of-clause-workers : goal.returns-in_err-of-clause-workers
-returns-in_err-of-clause-workers g c =
+pub returns-in_err-workers-clause-workers : goal.returns-in_err-workers-clause-workers
+returns-in_err-workers-clause-workers g c =
     let p = err_from_is_err_and c.from_residual.result c.from_residual.ensures.1 in
-    let refused = c.in_err-of.ensures.refused in
+    let refused = c.in_err-workers.ensures.refused in
     rw (p.1, p.2) (λ out. ap Err refused.0)
 
-pub returns-in_err-of-clause-refused : goal.returns-in_err-of-clause-refused
-returns-in_err-of-clause-refused g c =
+pub returns-in_err-workers-clause-refused : goal.returns-in_err-workers-clause-refused
+returns-in_err-workers-clause-refused g c =
     let p = err_from_is_err_and c.from_residual.result c.from_residual.ensures.1 in
     λ world told. rw (p.1, p.2)
     (no_workers (g.F.Files.may_fail c.args.files.now) world c.args.path.now c.args.request.now c.args.workers
-    (g.W.Sink.may_fail c.args.output.now) c.in_err-of.field-0.0 c.in_err-of.ensures.refused)
+    (g.W.Sink.may_fail c.args.output.now) c.in_err-workers.field-0.0 c.in_err-workers.ensures.refused)
 
-pub returns-in_err-of-clause-text : goal.returns-in_err-of-clause-text
-returns-in_err-of-clause-text g c =
+pub returns-in_err-workers-clause-text : goal.returns-in_err-workers-clause-text
+returns-in_err-workers-clause-text g c =
     let p = err_from_is_err_and c.from_residual.result c.from_residual.ensures.1 in
-    let refused = c.in_err-of.ensures.refused in
+    let refused = c.in_err-workers.ensures.refused in
     rw (p.1, p.2) (
       [],
       record { all = tt; front = λ is. let no : run.Workers ≡ run.Write = sym refused.0 ∙ cc in absurd cc },
@@ -31,13 +31,13 @@ returns-in_err-of-clause-text g c =
 pub returns-in_err-metadata-clause-workers : goal.returns-in_err-metadata-clause-workers
 returns-in_err-metadata-clause-workers g c =
     let p = err_from_is_err_and c.from_residual-in_err-metadata.result c.from_residual-in_err-metadata.ensures.1 in
-    let given = c.in_ok-of.ensures.given in
+    let given = c.in_ok-workers.ensures.given in
     rw (p.1, p.2) (λ out. absurd (in_range c.args.workers given.1 given.2 out))
 
 pub returns-in_err-metadata-clause-refused : goal.returns-in_err-metadata-clause-refused
 returns-in_err-metadata-clause-refused g c =
     let p = err_from_is_err_and c.from_residual-in_err-metadata.result c.from_residual-in_err-metadata.ensures.1 in
-    let given = c.in_ok-of.ensures.given in
+    let given = c.in_ok-workers.ensures.given in
     λ world told. rw (p.1, p.2)
     (no_metadata (g.F.Files.may_fail c.args.files.now) world c.args.path.now c.args.request.now c.args.workers given.1
     given.2 (g.W.Sink.may_fail c.args.output.now) c.in_err-metadata.field-0.0
@@ -58,45 +58,45 @@ returns-in_err-metadata-clause-text g c =
 
 pub returns-clause-workers : goal.returns-clause-workers
 returns-clause-workers g c =
-    let given = c.in_ok-of.ensures.given in
+    let given = c.in_ok-workers.ensures.given in
     λ out. absurd (in_range c.args.workers given.1 given.2 out)
 
 pub returns-clause-written : goal.returns-clause-written
 returns-clause-written g c =
     let f = g.F.Files.may_fail c.args.files.now in
-    let given = c.in_ok-of.ensures.given in
+    let given = c.in_ok-workers.ensures.given in
     λ world told.
     let has = c.in_ok-metadata.ensures.found world told ∙ ap Ok (sym c.deref.ensures.value) in
     let same = explained_behind f world c.args.path.now c.args.request.now c.args.workers given.1 given.2
     c.deref.result.now has in
-    IfOk-weaker c.run_explain.result _ _ (λ _ w. (w.0, same ∙ w.1, w.2)) (c.run_explain.ensures.written world told)
+    IfOk-weaker c.run_explain_by.result _ _ (λ _ w. (w.0, same ∙ w.1, w.2)) (c.run_explain_by.ensures.written world told)
 
 pub returns-clause-refused : goal.returns-clause-refused
 returns-clause-refused g c =
     let f = g.F.Files.may_fail c.args.files.now in
-    let given = c.in_ok-of.ensures.given in
+    let given = c.in_ok-workers.ensures.given in
     λ world told.
     let has = c.in_ok-metadata.ensures.found world told ∙ ap Ok (sym c.deref.ensures.value) in
-    IfErr-weaker c.run_explain.result _ _
+    IfErr-weaker c.run_explain_by.result _ _
     (λ e h. ends_behind f world c.args.path.now c.args.request.now c.args.workers given.1 given.2 c.deref.result.now has
-    (g.W.Sink.may_fail c.args.output.now) e h) (c.run_explain.ensures.refused world told)
+    (g.W.Sink.may_fail c.args.output.now) e h) (c.run_explain_by.ensures.refused world told)
 
 pub returns-clause-front : goal.returns-clause-front
 returns-clause-front g c =
     let f = g.F.Files.may_fail c.args.files.now in
-    let given = c.in_ok-of.ensures.given in
+    let given = c.in_ok-workers.ensures.given in
     λ world told failed.
     let has = c.in_ok-metadata.ensures.found world told ∙ ap Ok (sym c.deref.ensures.value) in
     let same = explained_behind f world c.args.path.now c.args.request.now c.args.workers given.1 given.2
     c.deref.result.now has in
-    let w = c.run_explain.ensures.front world told failed in
+    let w = c.run_explain_by.ensures.front world told failed in
     (w.0, same ∙ w.1, w.2)
 
 pub returns-clause-text : goal.returns-clause-text
-returns-clause-text g c = (c.deref.result.now, c.run_explain.ensures.text)
+returns-clause-text g c = (c.deref.result.now, c.run_explain_by.ensures.text)
 
 pub returns-clause-given : goal.returns-clause-given
 returns-clause-given g c =
     let read = subst (λ (bytes : List ℕ). g.F.Files.gives c.args.files.now c.args.path.now (Some bytes))
     (sym c.deref.ensures.value) c.in_ok-metadata.ensures.given in
-    IfOk-weaker c.run_explain.result _ _ (λ _ w. (c.deref.result.now, read, w)) c.run_explain.ensures.text.all
+    IfOk-weaker c.run_explain_by.result _ _ (λ _ w. (c.deref.result.now, read, w)) c.run_explain_by.ensures.text.all

@@ -7,7 +7,7 @@ use Rattle.icescan_explain.specs.Explanations.{explained}
 use Rattle.icescan_requests.specs.Plans.{reads}
 use Rattle.icescan_text.proofs.Steps.{may_write}
 use Rattle.icescan_explain.proofs.Telling.{no_text}
-use Rattle.icescan_explain.proofs.running.run_explain.Goals as goal
+use Rattle.icescan_explain.proofs.running.run_explain_by.Goals as goal
 
 pub returns-in_err-explanation-clause-refused : goal.returns-in_err-explanation-clause-refused
 returns-in_err-explanation-clause-refused g c =
