@@ -6,8 +6,8 @@ ghost use Rattle.json.specs.Print.{escape};
 ghost use Rattle.serde_json.specs.Written.{compact_text};
 ghost use Rattle.icescan_print.specs.Written.{Sent};
 ghost use Rattle.icescan_json.specs.PlanJson.{data_json, delete_json, format_name};
-ghost use Rattle.icescan_json.specs.Texts.{before_path, file_head, file_partition, file_sizes, file_text, format_text, kind_text};
-ghost use Rattle.icescan_json.specs.Texts.{referenced_text};
+ghost use Rattle.icescan_json.specs.Texts.{before_path, file_head, file_partition, file_sizes, file_text};
+ghost use Rattle.icescan_json.specs.Texts.{format_text, kind_text, referenced_text};
 
 use crate::types::{SpecTypes, types_of};
 use crate::values::put_cells;

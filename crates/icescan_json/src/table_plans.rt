@@ -46,8 +46,8 @@ fn typed_table_at<R: Threads + Sync, F: Files + Sync>(
 /// Writes the plan that a request asks for as JSON, in one line: the answer of an Iceberg REST catalog to a scan that
 /// was planned. The table is the one whose metadata is in the file at a path. Each task has the whole filter of the
 /// request, which the rows of its file are still to meet; `true` where there is none. So many workers, from 1 to 64,
-/// read and take the wanted manifests at once, and make the text of ranges of tasks at once, each in a thread of its own
-/// where one can be started.
+/// read and take the wanted manifests at once, and then make the text of ranges of tasks at once, each in a thread of
+/// its own where one can be started.
 ///
 /// The refusals and their order are those of `icescan_requests::plan_file`: `Workers` comes before all others, and then
 /// nothing is read. After any refusal but `Write` nothing was written, and after that one a front of the text was.

@@ -139,16 +139,9 @@ impl<'t, 'a> Tasks<'t, 'a> {
         ensures { (text : List ℕ) → slice_get self.now i ≡ Some text →
             Sent S.taken S.may_fail sink.old page.old result sink.new page.new text }
     {
+        let plan = self.plan;
         page.put(sink, comma_before(i))?;
-        put_task(
-            page,
-            sink,
-            self.types,
-            self.residual,
-            self.plan,
-            self.named,
-            i,
-        )
+        put_task(page, sink, self.types, self.residual, plan, self.named, i)
     }
 }
 

@@ -87,8 +87,8 @@ returns-clause-wanted g c =
     let given = c.in_ok-workers.ensures.given in
     let wrote = c.write_json_by_workers.ensures in
     λ world told.
-    written_json c.in_ok-typed.typed c.write_json_by_workers.result (g.W.Sink.may_fail c.args.output.now) _ _ wrote.all wrote.front
-    _ _ (rw given.0 at (c.in_ok-typed.ensures.found world told)) wrote.causes wrote.cause
+    written_json c.in_ok-typed.typed c.write_json_by_workers.result (g.W.Sink.may_fail c.args.output.now) _ _ wrote.all
+    wrote.front _ _ (rw given.0 at (c.in_ok-typed.ensures.found world told)) wrote.causes wrote.cause
 
 pub returns-clause-plan : goal.returns-clause-plan
 returns-clause-plan g c =
@@ -98,14 +98,16 @@ returns-clause-plan g c =
     let same = same_typed_at c.plans_of_true_summaries.ensures world c.args.path.now c.args.request.now c.args.workers
     truth
     in
-    written_json c.in_ok-typed.typed c.write_json_by_workers.result (g.W.Sink.may_fail c.args.output.now) _ _ wrote.all wrote.front
-    _ _ (same ∙ (rw given.0 at (c.in_ok-typed.ensures.found world told))) wrote.causes wrote.cause
+    written_json c.in_ok-typed.typed c.write_json_by_workers.result (g.W.Sink.may_fail c.args.output.now) _ _ wrote.all
+    wrote.front _ _ (same ∙ (rw given.0 at (c.in_ok-typed.ensures.found world told))) wrote.causes wrote.cause
 
 pub returns-clause-text : goal.returns-clause-text
 returns-clause-text g c =
     let wrote = c.write_json_by_workers.ensures in
-    writes_json c.in_ok-typed.typed c.write_json_by_workers.result (g.W.Sink.may_fail c.args.output.now) _ _ wrote.all wrote.front
+    writes_json c.in_ok-typed.typed c.write_json_by_workers.result (g.W.Sink.may_fail c.args.output.now) _ _ wrote.all
+    wrote.front
 
 pub returns-clause-given : goal.returns-clause-given
 returns-clause-given g c =
-    json_that _ c.in_ok-typed.typed c.write_json_by_workers.result _ _ c.in_ok-typed.ensures.given c.write_json_by_workers.ensures.all
+    json_that _ c.in_ok-typed.typed c.write_json_by_workers.result _ _ c.in_ok-typed.ensures.given
+    c.write_json_by_workers.ensures.all
