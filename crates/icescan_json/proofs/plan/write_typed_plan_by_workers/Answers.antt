@@ -7,7 +7,7 @@ use Rattle.icescan_json.proofs.Narrowed.{says_named}
 use Rattle.icescan_json.proofs.plan.write_typed_plan_by_workers.Goals as goal
 
 pub put_plan_by_workers-requires-clause-marked : goal.put_plan_by_workers-requires-clause-marked
-put_plan_by_workers-requires-clause-marked g c =
+put_plan_by_workers-requires-clause-marked g c κs within =
     ap length c.in_ok-named.ensures ∙ length_marks_of c.placed_files-plan.result
 
 pub returns-in_err-flush-clause-front : goal.returns-in_err-flush-clause-front
