@@ -133,7 +133,9 @@ pub none_between : (first n : ℕ) → first ≤ n → between first 0 (n - (fir
 none_between first n within = none_or_none first (n - (first + 0)) n (omega (arith, within))
 
 pub all_between : (n : ℕ) → between 0 n (n - (0 + n)) ≡ replicate n true
-all_between n = ap (λ k. replicate n true ++ replicate k false) (omega arith) ∙ append-nil (replicate n true)
+all_between n =
+    let none : n - (0 + n) ≡ 0 = omega arith in
+    ap (λ k. replicate n true ++ replicate k false) none ∙ append-nil (replicate n true)
 
 one_more : (a b c at : ℕ) → at ≡ a + b → add (between a b (suc c)) at ≡ between a (suc b) c
 one_more zero zero c zero e = refl
@@ -165,12 +167,15 @@ long_range (suc b) c = ap suc (long_range b c) ∙ omega arith
 
 either_range : (a b c d r at : ℕ) → r ≡ c + d → at ≡ a + b
     → either (between a b r) (between at c d) ≡ between a (b + c) d
-either_range zero zero c d r zero e f = ap (λ n. either (replicate n false) (between 0 c d)) e
-    ∙ or_none (c + d) (between 0 c d) (long_range c d) ∙ ap (λ n. between 0 n d) (omega arith)
+either_range zero zero c d r zero e f =
+    let same : c ≡ zero + c = omega arith in
+    ap (λ n. either (replicate n false) (between 0 c d)) e ∙ or_none (c + d) (between 0 c d) (long_range c d)
+    ∙ ap (λ n. between 0 n d) same
 either_range zero zero c d r (suc at) e f = absurd (omega (arith, f))
 either_range zero (suc b) c d r zero e f = absurd (omega (arith, f))
-either_range zero (suc b) c d r (suc at) e f = ap (λ ts. true ∷ ts) (either_range zero b c d r at e (omega (arith, f)))
-    ∙ ap (λ n. between 0 n d) (omega arith)
+either_range zero (suc b) c d r (suc at) e f =
+    let same : suc (b + c) ≡ suc b + c = omega arith in
+    ap (λ ts. true ∷ ts) (either_range zero b c d r at e (omega (arith, f))) ∙ ap (λ n. between 0 n d) same
 either_range (suc a) b c d r zero e f = absurd (omega (arith, f))
 either_range (suc a) b c d r (suc at) e f = ap (λ ts. false ∷ ts) (either_range a b c d r at e (omega (arith, f)))
 
@@ -189,9 +194,13 @@ all_none (None ∷ c) h = ap (λ (ds : Content). None ∷ ds) (all_none c (λ j.
 
 pub none_behind : (c : Content) (n : ℕ) → ((j : ℕ) → n ≤ j → is_row_taken c j ≡ false)
     → drop n c ≡ untaken (length c - n)
-none_behind [] n h = drop-nil n ∙ ap untaken (omega arith)
-none_behind (s ∷ c) zero h = all_none (s ∷ c) (λ j. h j (omega arith)) ∙ ap untaken (omega arith)
-none_behind (s ∷ c) (suc n) h = none_behind c n (λ j l. h (suc j) (omega (arith, l))) ∙ ap untaken (omega arith)
+none_behind [] n h = let none : 0 ≡ 0 - n = omega arith in drop-nil n ∙ ap untaken none
+none_behind (s ∷ c) zero h =
+    let same : length (s ∷ c) ≡ length (s ∷ c) - 0 = omega arith in
+    all_none (s ∷ c) (λ j. h j (omega arith)) ∙ ap untaken same
+none_behind (s ∷ c) (suc n) h =
+    let same : length c - n ≡ length (s ∷ c) - suc n = omega arith in
+    none_behind c n (λ j l. h (suc j) (omega (arith, l))) ∙ ap untaken same
 
 took_elsewhere : (scan : Scanned) (c : Content) (rows : List Row) (i j : ℕ) (bytes : List ℕ)
     → (j ≡ i → ⊥) → is_row_taken c j ≡ false → is_row_taken (took_at scan c rows i bytes) j ≡ false
@@ -423,7 +432,7 @@ module _ (told : Option World) (f : List ℕ → Type 0) (gives : Giving) (tests
         write = λ is. absurd cc;
       }
       where
-        abbrev AreGivenIn : Content → Type 0
+        AreGivenIn : Content → Type 0
         AreGivenIn c = AreSlotsGiven gives scan scan.wanted c
 
         or_true : (b : Bool) → (b || true) ≡ true

@@ -14,7 +14,7 @@ use contract_words::Items;
 use ice_desk::Files;
 use ice_manifest_reading::Row;
 use ice_state::{Partial, Scan};
-use icescan_text::{RunFault, Workers};
+use icescan_text::RunFault;
 use std::alloc::{AllocError, Global};
 use std::thread::{Threads, join};
 
@@ -43,64 +43,6 @@ impl ToldRows {
             state,
             verdicts: Items::from_vec(verdicts),
         })
-    }
-}
-
-/// Who tells of all rows of a scan.
-pub trait Tellers<F: Files> {
-    /// What becomes of the manifests of these rows, in their order, and of the live files of those that are wanted,
-    /// which are read and taken. The first refusal in the order of the rows ends it.
-    fn tell_all(
-        &self,
-        alloc: Global,
-        files: &F,
-        tests: &FilterTests,
-        scan: &Scan,
-        rows: &[Row],
-    ) -> Result<ToldRows, RunFault>
-        requires by { IsScanFor tests.now scan.now }
-        requires rows { scan.now.wanted ≡ filter (is_wanted tests.now) rows.now }
-        ensures { TellsRows (F.world files.now) (F.may_fail files.now) (F.gives files.now) tests.now scan.now 0 rows.now
-            result };
-}
-
-/// One worker.
-#[derive(Drop)]
-pub struct Alone;
-
-impl<F: Files> Tellers<F> for Alone {
-    fn tell_all(
-        &self,
-        alloc: Global,
-        files: &F,
-        tests: &FilterTests,
-        scan: &Scan,
-        rows: &[Row],
-    ) -> Result<ToldRows, RunFault> {
-        tell_rows(alloc, files, tests, scan, 0, rows)
-    }
-}
-
-/// So many workers, each in a thread of its own where one can be started.
-#[derive(Drop)]
-pub struct ByWorkers<'a, R> {
-    /// What starts the threads.
-    pub rt: &'a R,
-    /// How many they are.
-    pub workers: Workers,
-}
-
-impl<'a, R: Threads + Sync, F: Files + Sync> Tellers<F> for ByWorkers<'a, R> {
-    fn tell_all(
-        &self,
-        alloc: Global,
-        files: &F,
-        tests: &FilterTests,
-        scan: &Scan,
-        rows: &[Row],
-    ) -> Result<ToldRows, RunFault> {
-        let workers = self.workers.count();
-        tell_by_workers(self.rt, alloc, files, tests, scan, 0, rows, workers)
     }
 }
 
@@ -141,7 +83,7 @@ fn count_before(tests: &FilterTests, rows: &[Row], wanted: usize) -> usize
 /// The same as `tell_rows` by so many workers, no more than there are rows: by halves of the workers, each half with
 /// its share of the wanted rows, which are neighbours, in a thread of its own where one can be started. What the first
 /// half tells comes first, and so does its refusal.
-fn tell_by_workers<R: Threads + Sync, F: Files + Sync>(
+pub fn tell_by_workers<R: Threads + Sync, F: Files + Sync>(
     rt: &R,
     alloc: Global,
     files: &F,

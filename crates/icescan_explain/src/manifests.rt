@@ -21,7 +21,7 @@ ghost use Rattle.icescan_explain.specs.RowsTold.{row_told, rows_told};
 ghost use Rattle.icescan_explain.specs.ToldRanges.{AreWantedFrom, TellsRows};
 ghost use Rattle.icescan_explain.specs.Told.{paths_kept, paths_of_data, paths_planned};
 
-use crate::by_workers::{Tellers, ToldRows};
+use crate::by_workers::{ToldRows, tell_by_workers};
 use crate::files::FileTests;
 use crate::tests::{FilterTests, SpecTests, row_verdict};
 use crate::verdict::Verdict;
@@ -30,8 +30,9 @@ use ice_desk::Files;
 use ice_manifest_reading::{ManifestFault, Row};
 use ice_state::{OwnedPlan, Partial, Scan};
 use icescan_requests::SelectedRows;
-use icescan_text::{RunFault, read_file_into};
+use icescan_text::{RunFault, Workers, read_file_into};
 use std::alloc::{AllocError, Global};
+use std::thread::Threads;
 
 /// A plan, and what became of each manifest and live file.
 #[derive(Debug, Drop)]
@@ -234,14 +235,13 @@ pub fn tell_rows<F: Files>(
     })
 }
 
-/// The plan of these rows, and what became of their manifests, as these tell it. The tests are those of the filter and
+/// The plan of these rows, and what became of their manifests, by one worker. The tests are those of the filter and
 /// the specs.
-pub fn explain_rows<F: Files, T: Tellers<F>>(
+pub fn explain_rows<F: Files>(
     alloc: Global,
     files: &F,
     tests: &FilterTests,
     selected: SelectedRows,
-    tellers: &T,
 ) -> Result<Explanation, RunFault>
     requires { AreFor tests.now selected.specs selected.filter.parts }
     ensures planned { (world : World) → F.world files.now ≡ Some world →
@@ -263,7 +263,44 @@ pub fn explain_rows<F: Files, T: Tellers<F>>(
     let mut sorted = copied_rows(alloc, selected.rows.as_slice())?;
     sort_by_path(&mut sorted)?;
     let scan = selected.into_scan(alloc)?;
-    let told = tellers.tell_all(alloc, files, tests, &scan, &sorted)?;
+    let told = tell_rows(alloc, files, tests, &scan, 0, &sorted)?;
+    let plan = told.state.into_plan(&scan)?;
+    Ok(Explanation {
+        plan,
+        verdicts: told.verdicts,
+    })
+}
+
+/// The same by so many workers, each in a thread of its own where one can be started.
+pub fn explain_rows_by_workers<R: Threads + Sync, F: Files + Sync>(
+    rt: &R,
+    alloc: Global,
+    files: &F,
+    tests: &FilterTests,
+    selected: SelectedRows,
+    workers: Workers,
+) -> Result<Explanation, RunFault>
+    requires { AreFor tests.now selected.specs selected.filter.parts }
+    ensures planned { (world : World) → F.world files.now ≡ Some world →
+        IfOk result (λ x. rows_plan over_wanted_rows world selected.specs selected.filter.parts selected.rows
+        ≡ Ok x.plan) }
+    ensures told { (world : World) → F.world files.now ≡ Some world →
+        IfOk result (λ x. x.verdicts ≡ rows_told tests.now world (by_row_path selected.rows)) }
+    ensures refused { (world : World) → F.world files.now ≡ Some world →
+        IfErr result (MayEnd (rows_plan over_wanted_rows world selected.specs selected.filter.parts selected.rows)
+        (EndsAt world (F.may_fail files.now) (manifests selected.specs selected.filter.parts selected.rows)) ⊥) }
+    ensures read { IfOk result (λ x. AreToldOf (F.gives files.now) tests.now (by_row_path selected.rows) x.verdicts) }
+    ensures kept { IfOk result (λ x. IsPermutation (paths_kept x.verdicts) (paths_planned x.plan)) }
+    ensures absent { (path : List ℕ) → IsErrOf result (RunFault.Absent path) → HasAt (F.world files.now) path None }
+    ensures device { (path : List ℕ) → IsErrOf result (RunFault.Device path) → F.may_fail files.now path }
+    ensures write { IsErrOf result RunFault.Write → ⊥ }
+    ensures given { IfOk result (λ x. IsRowsPlanOfGiven (F.gives files.now) selected.specs selected.filter.parts
+        selected.rows x.plan) }
+{
+    let mut sorted = copied_rows(alloc, selected.rows.as_slice())?;
+    sort_by_path(&mut sorted)?;
+    let scan = selected.into_scan(alloc)?;
+    let told = tell_by_workers(rt, alloc, files, tests, &scan, 0, &sorted, workers.count())?;
     let plan = told.state.into_plan(&scan)?;
     Ok(Explanation {
         plan,

@@ -11,11 +11,10 @@ ghost use Rattle.ice_state.specs.Contents.{World};
 ghost use Rattle.icescan_text.specs.Reads.{MayEnd};
 ghost use Rattle.icescan_text.specs.Writes.{WroteOrRefused};
 
-use crate::by_workers::{Alone, ByWorkers, Tellers};
 use crate::columns::columns_in;
 use crate::json_lines::write_explanation_objects;
 use crate::lines::write_explanation_lines;
-use crate::manifests::{Explanation, explain_rows};
+use crate::manifests::{Explanation, explain_rows, explain_rows_by_workers};
 use crate::tests::FilterTests;
 use ice_desk::Files;
 use icescan_forms::Format;
@@ -25,13 +24,12 @@ use icescan_text::{Request, RunFault, Workers, read_file};
 use std::alloc::Global;
 use std::thread::Threads;
 
-/// The plan that a request asks for, and what became of the snapshot's manifests and live files, as these tell it.
-fn explain_table<F: Files, T: Tellers<F>>(
+/// The plan that a request asks for, and what became of the snapshot's manifests and live files, by one worker.
+fn explain_table<F: Files>(
     alloc: Global,
     files: &F,
     metadata: &[u8],
     request: &Request,
-    tellers: &T,
 ) -> Result<Explanation, RunFault>
     ensures answer { Explains (F.world files.now) (F.may_fail files.now) metadata.now request.now result }
     ensures read { IfOk result (IsAnExplanation (F.gives files.now) metadata.now request.now) }
@@ -43,7 +41,29 @@ fn explain_table<F: Files, T: Tellers<F>>(
     let columns = columns_in(alloc, &request.filter)?;
     let specs = selected.specs.as_slice();
     let tests = FilterTests::new(alloc, specs, &selected.filter, &columns)?;
-    explain_rows(alloc, files, &tests, selected, tellers)
+    explain_rows(alloc, files, &tests, selected)
+}
+
+/// The same by so many workers, each in a thread of its own where one can be started.
+fn explain_table_by_workers<R: Threads + Sync, F: Files + Sync>(
+    rt: &R,
+    alloc: Global,
+    files: &F,
+    metadata: &[u8],
+    request: &Request,
+    workers: Workers,
+) -> Result<Explanation, RunFault>
+    ensures answer { Explains (F.world files.now) (F.may_fail files.now) metadata.now request.now result }
+    ensures read { IfOk result (IsAnExplanation (F.gives files.now) metadata.now request.now) }
+    ensures absent { (path : List ℕ) → IsErrOf result (RunFault.Absent path) → HasAt (F.world files.now) path None }
+    ensures device { (path : List ℕ) → IsErrOf result (RunFault.Device path) → F.may_fail files.now path }
+    ensures write { IsErrOf result RunFault.Write → ⊥ }
+{
+    let selected = select_rows(alloc, files, metadata, request)?;
+    let columns = columns_in(alloc, &request.filter)?;
+    let specs = selected.specs.as_slice();
+    let tests = FilterTests::new(alloc, specs, &selected.filter, &columns)?;
+    explain_rows_by_workers(rt, alloc, files, &tests, selected, workers)
 }
 
 /// Writes an explanation in a form and nothing else. All memory is taken before the first byte: it refuses when out of
@@ -60,38 +80,6 @@ fn write_explanation<S: Sink>(
         Format::Text => write_explanation_lines(alloc, explanation, sink),
         Format::Json => write_explanation_objects(alloc, explanation, sink),
     }
-}
-
-/// The same as `run_explain`, as these tell of the rows.
-fn run_explain_by<F: Files, T: Tellers<F>, W: Sink>(
-    alloc: Global,
-    files: &F,
-    metadata: &[u8],
-    request: &Request,
-    format: Format,
-    tellers: &T,
-    output: &mut W,
-) -> Result<(), RunFault>
-    // Over files that tell their world.
-    ensures written { (world : World) → F.world files.now ≡ Some world →
-        OnOk result (WroteExplanationAs format (explained world metadata.now request.now) (W.taken output.old)
-        (W.taken output.new)) }
-    ensures refused { (world : World) → F.world files.now ≡ Some world →
-        IfErr result (MayEnd (explained world metadata.now request.now)
-        (EndsAt world (F.may_fail files.now) (reads world metadata.now request.now)) (W.may_fail output.old)) }
-    ensures front { (world : World) → F.world files.now ≡ Some world → IsErrOf result RunFault.Write →
-        WroteExplanationFrontAs format (explained world metadata.now request.now) (W.taken output.old)
-        (W.taken output.new) }
-
-    // Over all files.
-    ensures text { WritesAnExplanation format (F.gives files.now) metadata.now request.now result (W.taken output.old)
-        (W.taken output.new) }
-    ensures refusal { OnRefusal (F.world files.now) (F.may_fail files.now) (W.may_fail output.old) result
-        (W.taken output.old) (W.taken output.new) }
-{
-    let explanation = explain_table(alloc, files, metadata, request, tellers)?;
-    write_explanation(alloc, &explanation, format, output)?;
-    Ok(())
 }
 
 /// Explains the plan that a request asks for, of the table whose metadata these are the bytes of: writes a line for
@@ -126,7 +114,42 @@ pub fn run_explain<F: Files, W: Sink>(
     ensures refusal { OnRefusal (F.world files.now) (F.may_fail files.now) (W.may_fail output.old) result
         (W.taken output.old) (W.taken output.new) }
 {
-    run_explain_by(alloc, files, metadata, request, format, &Alone, output)
+    let explanation = explain_table(alloc, files, metadata, request)?;
+    write_explanation(alloc, &explanation, format, output)?;
+    Ok(())
+}
+
+/// The same as `run_explain` by so many workers, each in a thread of its own where one can be started.
+fn run_explain_by<R: Threads + Sync, F: Files + Sync, W: Sink>(
+    rt: &R,
+    alloc: Global,
+    files: &F,
+    metadata: &[u8],
+    request: &Request,
+    workers: Workers,
+    format: Format,
+    output: &mut W,
+) -> Result<(), RunFault>
+    // Over files that tell their world.
+    ensures written { (world : World) → F.world files.now ≡ Some world →
+        OnOk result (WroteExplanationAs format (explained world metadata.now request.now) (W.taken output.old)
+        (W.taken output.new)) }
+    ensures refused { (world : World) → F.world files.now ≡ Some world →
+        IfErr result (MayEnd (explained world metadata.now request.now)
+        (EndsAt world (F.may_fail files.now) (reads world metadata.now request.now)) (W.may_fail output.old)) }
+    ensures front { (world : World) → F.world files.now ≡ Some world → IsErrOf result RunFault.Write →
+        WroteExplanationFrontAs format (explained world metadata.now request.now) (W.taken output.old)
+        (W.taken output.new) }
+
+    // Over all files.
+    ensures text { WritesAnExplanation format (F.gives files.now) metadata.now request.now result (W.taken output.old)
+        (W.taken output.new) }
+    ensures refusal { OnRefusal (F.world files.now) (F.may_fail files.now) (W.may_fail output.old) result
+        (W.taken output.old) (W.taken output.new) }
+{
+    let explanation = explain_table_by_workers(rt, alloc, files, metadata, request, workers)?;
+    write_explanation(alloc, &explanation, format, output)?;
+    Ok(())
 }
 
 /// Explains the plan that a request asks for, of the table whose metadata is in the file at a path. So many workers read
@@ -171,8 +194,7 @@ pub fn explain_file<R: Threads + Sync, F: Files + Sync, W: Sink>(
 {
     let workers = Workers::of(workers)?;
     let metadata = read_file(alloc, files, path)?;
-    let tellers = ByWorkers { rt, workers };
     run_explain_by(
-        alloc, files, &metadata, request, format, &tellers, output,
+        rt, alloc, files, &metadata, request, workers, format, output,
     )
 }

@@ -1,7 +1,44 @@
-use Rattle.std.proofs.Common.{◌≡◌, ◌+◌, ◌∙◌, ap, sym}
+use Rattle.std.proofs.Common.{◌≡◌, ◌+◌, ◌<◌, ◌^◌, ◌++◌, ◌∙◌, ap, arith, length, rules, subst, sym}
+use Rattle.std.proofs.lemmas.List.{length-append}
 use Rattle.std.proofs.lemmas.Result.{err_from_is_err_and}
-use Rattle.icescan_explain.proofs.Ranges.{range_within, refused_behind, refused_first, told_both}
+use Rattle.icescan_explain.specs.ToldRanges.{AreWantedFrom, count_of}
+use Rattle.icescan_explain.proofs.Ranges.{behind_wanted, few_wanted, front_wanted, range_within, refused_behind, refused_first, told_both}
 use Rattle.icescan_explain.proofs.by_workers.+fn-tell_by_workers-join+arg2+fn-tell_by_workers-join+arg3+tell_by_workers.Goals as goal
+
+pub overflow_add-next : goal.overflow_add-next
+overflow_add-next g t c =
+    let counted = c.count_wanted-wanted.ensures in
+    let few = few_wanted c.args.tests.now c.split_at.result.0.now in
+    let long = c.split_at.ensures.front_len in
+    omega (arith, counted, few, long, c.requires.few)
+
+pub join-told-requires-after_bounds : goal.join-told-requires-after_bounds
+join-told-requires-after_bounds g t c κs within =
+    let tests = c.args.tests.now in
+    let scan = c.args.scan.now in
+    let first = c.args.first in
+    let front = c.split_at.result.0.now in
+    let back = c.split_at.result.1.now in
+    let whole : AreWantedFrom tests scan first (front ++ back) =
+    subst (AreWantedFrom tests scan first) c.split_at.ensures.by_index.0 c.requires.rows in
+    let counted : c.count_wanted-wanted.result ≡ count_of tests front = c.count_wanted-wanted.ensures in
+    let before : AreWantedFrom tests scan first front = front_wanted tests scan first front back whole in
+    let behind : AreWantedFrom tests scan (first + c.count_wanted-wanted.result) back =
+    subst (λ n. AreWantedFrom tests scan (first + n) back) (sym counted)
+    (behind_wanted tests scan first front back whole) in
+    let long = ap length c.split_at.ensures.by_index.0 ∙ length-append front back in
+    let few : first + length front < 2 ^ 64 = omega (arith, long, c.requires.few) in
+    let few_behind : (first + c.count_wanted-wanted.result) + length back < 2 ^ 64 =
+    omega (arith, long, counted, few_wanted tests front, c.requires.few) in (
+      (search rules, (search rules, (search rules, (
+        (search rules, search rules, c.requires.by, before, few),
+        (search rules, search rules),
+      )))),
+      (search rules, (search rules, (search rules, (
+        (search rules, search rules, c.requires.by, behind, few_behind),
+        (search rules, search rules),
+      )))),
+    )
 
 pub returns-in_err-told : goal.returns-in_err-told
 returns-in_err-told g t c =

@@ -1,31 +1,31 @@
 use Rattle.std.proofs.Common.{◌≡◌, ◌∙◌, List, ap, filter, subst, sym}
-use Rattle.std.specs.Prelude.{Ok}
+use Rattle.std.specs.Prelude.{Err, Ok}
 use Rattle.ice_desk.specs.Wanted.{paths_of}
 use Rattle.ice_desk.specs.Worlds.{EndsAt}
 use Rattle.ice_manifest_reading.specs.declared.row.Row.{Row}
 use Rattle.icescan_text.specs.Reads.{MayEnd, all_present}
+use Rattle.icescan_text.specs.declared.fault.RunFault.TheVariants as run
 use Rattle.std.proofs.lemmas.Result.{err_from_is_err_and}
 use Rattle.icescan_requests.proofs.Plans.{no_plan, no_scan, plan_there}
 use Rattle.ice_state.specs.Scans.{by_row_path}
 use Rattle.icescan_explain.specs.RowsTold.{is_wanted, rows_told}
 use Rattle.icescan_explain.proofs.Kept.{planned_are}
-use Rattle.icescan_explain.proofs.Ranges.{whole_content, whole_taken}
+use Rattle.icescan_explain.proofs.Ranges.{from_start, whole_content, whole_taken}
 use Rattle.icescan_explain.proofs.Rows.{no_manifest}
 use Rattle.icescan_explain.proofs.Wanted.{scan_wants}
 use Rattle.icescan_explain.proofs.manifests.explain_rows.Goals as goal
 
-pub tell_all-requires-clause-by : goal.tell_all-requires-clause-by
-tell_all-requires-clause-by g c =
+pub tell_rows-requires-clause-by : goal.tell_rows-requires-clause-by
+tell_rows-requires-clause-by g c =
     (c.args.selected.rows, c.args.selected.specs, c.args.selected.filter.parts, c.requires, c.in_ok-scan.ensures)
 
-pub tell_all-requires-clause-rows : goal.tell_all-requires-clause-rows
-tell_all-requires-clause-rows g c =
+pub tell_rows-requires-clause-rows : goal.tell_rows-requires-clause-rows
+tell_rows-requires-clause-rows g c =
     let same : c.deref.result.now ≡ by_row_path c.args.selected.rows = c.deref.ensures.value
     ∙ c.in_ok-sort_by_path.ensures ∙ ap by_row_path (c.in_ok-sorted.ensures ∙ c.as_slice.ensures) in
-    scan_wants c.args.tests.now c.args.selected.specs c.args.selected.filter.parts c.args.selected.rows
-    c.in_ok-scan.scan c.requires
-    c.in_ok-scan.ensures
-    ∙ ap (filter (is_wanted c.args.tests.now)) (sym same)
+    from_start c.args.tests.now c.in_ok-scan.scan c.deref.result.now
+    (scan_wants c.args.tests.now c.args.selected.specs c.args.selected.filter.parts c.args.selected.rows
+    c.in_ok-scan.scan c.requires c.in_ok-scan.ensures ∙ ap (filter (is_wanted c.args.tests.now)) (sym same))
 
 pub returns-in_err-scan-clause-refused : goal.returns-in_err-scan-clause-refused
 returns-in_err-scan-clause-refused g c =
@@ -54,17 +54,20 @@ returns-in_err-told-clause-refused g c =
 pub returns-in_err-told-clause-absent : goal.returns-in_err-told-clause-absent
 returns-in_err-told-clause-absent g c =
     let p = err_from_is_err_and c.from_residual-in_err-told.result c.from_residual-in_err-told.ensures.1 in
-    rw (p.1, p.2) c.in_err-told.ensures.absent
+    rw (p.1, p.2) (λ path is.
+    let failed : c.in_err-told.field-0.0 ≡ run.Absent path = cc in c.in_err-told.ensures.absent path (ap Err failed))
 
 pub returns-in_err-told-clause-device : goal.returns-in_err-told-clause-device
 returns-in_err-told-clause-device g c =
     let p = err_from_is_err_and c.from_residual-in_err-told.result c.from_residual-in_err-told.ensures.1 in
-    rw (p.1, p.2) c.in_err-told.ensures.device
+    rw (p.1, p.2) (λ path is.
+    let failed : c.in_err-told.field-0.0 ≡ run.Device path = cc in c.in_err-told.ensures.device path (ap Err failed))
 
 pub returns-in_err-told-clause-write : goal.returns-in_err-told-clause-write
 returns-in_err-told-clause-write g c =
     let p = err_from_is_err_and c.from_residual-in_err-told.result c.from_residual-in_err-told.ensures.1 in
-    rw (p.1, p.2) c.in_err-told.ensures.write
+    rw (p.1, p.2) (λ is.
+    let failed : c.in_err-told.field-0.0 ≡ run.Write = cc in c.in_err-told.ensures.write (ap Err failed))
 
 pub returns-in_err-plan-clause-refused : goal.returns-in_err-plan-clause-refused
 returns-in_err-plan-clause-refused g c =
@@ -110,7 +113,7 @@ pub returns-clause-read : goal.returns-clause-read
 returns-clause-read g c =
     let same : c.deref.result.now ≡ by_row_path c.args.selected.rows = c.deref.ensures.value
     ∙ c.in_ok-sort_by_path.ensures ∙ ap by_row_path (c.in_ok-sorted.ensures ∙ c.as_slice.ensures) in
-    rw ← same c.in_ok-told.ensures.all.read
+    rw (← same) c.in_ok-told.ensures.all.read
 
 pub returns-clause-kept : goal.returns-clause-kept
 returns-clause-kept g c =

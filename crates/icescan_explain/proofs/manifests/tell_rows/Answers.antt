@@ -1,6 +1,6 @@
 use Rattle.std.proofs.Common.{◌≡◌, ◌≤◌, ◌<◌, ◌+◌, ◌-◌, ◌++◌, ◌∙◌, ℕ, true, List, [], ap, append-nil, arith, drop, length}
 use Rattle.std.proofs.Common.{refl, subst, sym, take, cond, false}
-use Rattle.std.specs.Prelude.{Ok, Some, slice_get}
+use Rattle.std.specs.Prelude.{Err, Ok, Some, slice_get}
 use Rattle.std.proofs.Math.Seq.{take-length}
 use Rattle.std.proofs.lemmas.List.{append_assoc}
 use Rattle.std.proofs.lemmas.Option.{slice_get-get_or, slice_get_within}
@@ -13,6 +13,7 @@ use Rattle.ice_manifest_reading.specs.declared.row.Row.{Row}
 use Rattle.ice_state.specs.Contents.{Content, content, is_row_taken, no_row}
 use Rattle.ice_state.specs.Outcomes.{kept_in}
 use Rattle.icescan_text.specs.Reads.{all_present}
+use Rattle.icescan_text.specs.declared.fault.RunFault.TheVariants as run
 use Rattle.icescan_explain.specs.RowsTold.{AreToldOf, is_wanted, row_told, rows_told}
 use Rattle.icescan_explain.specs.Told.{paths_of_data}
 use Rattle.icescan_explain.specs.ToldRanges.{between, count_of, wanted_of}
@@ -88,9 +89,9 @@ rows-preserved g c =
     let step = step_of rows i row c.rows-test.true c.row-item.is in
     let at = is_next (is_wanted tests) mine rows i k row kept.rest step in
     let start = starts (is_wanted tests) mine rows i k row kept.rest step in
-    let scan_at = λ e. row_at tests scan first rows c.requires.rows k next row kept.place (at e) in
-    let within_mine = λ e. slice_get_within mine k row (at e) in
-    let within = λ e. slice_get_within wanted next row (scan_at e) in
+    let scan_at : b ≡ true → slice_get wanted next ≡ Some row = λ e. row_at tests scan first rows c.requires.rows k next row kept.place (at e) in
+    let within_mine : b ≡ true → k < length mine = λ e. slice_get_within mine k row (at e) in
+    let within : b ≡ true → next < length wanted = λ e. slice_get_within wanted next row (scan_at e) in
     let item : slice_get rows i ≡ Some row = slice_get-get_or rows i row c.rows-test.true
     ∙ ap Some (sym c.row-item.is) in
     let here = c.in_ok-next.ensures in
@@ -148,9 +149,11 @@ returns-in_err-next g c =
       refused = λ world told. kept.ends world told c.in_err-next.field-0.0
           (ends_here (g.F.Files.may_fail c.args.files.now) world tests (wanted_of tests rows) k c.row-item.result start
           c.in_err-next.field-0.0 (refused.refused world told));
-      absent = refused.absent;
-      device = refused.device;
-      write = refused.write;
+      absent = λ path is.
+          let failed : c.in_err-next.field-0.0 ≡ run.Absent path = cc in refused.absent path (ap Err failed);
+      device = λ path is.
+          let failed : c.in_err-next.field-0.0 ≡ run.Device path = cc in refused.device path (ap Err failed);
+      write = λ is. let failed : c.in_err-next.field-0.0 ≡ run.Write = cc in refused.write (ap Err failed);
     })
 
 pub returns : goal.returns
