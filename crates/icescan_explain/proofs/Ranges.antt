@@ -1,5 +1,5 @@
 -- What is told of neighbouring rows of a scan, and of others behind them.
-use Rattle.std.proofs.Common.{◌≡◌, ◌<◌, ◌≤◌, ◌+◌, ◌-◌, ◌⊎◌, inl, inr, ⊎_elim, ℕ, zero, suc, Bool, true, false, ◌||◌, cond}
+use Rattle.std.proofs.Common.{◌≡◌, ◌<◌, ◌≤◌, ◌+◌, ◌-◌, inl, inr, ⊎_elim, ℕ, zero, suc, Bool, true, false, ◌||◌, cond}
 use Rattle.std.proofs.Common.{List, [], ◌∷◌, ◌++◌, length, drop, filter, Option, None, Some, replicate, refl, sym, ap, ◌∙◌}
 use Rattle.std.proofs.Common.{subst, arith, add-one, append-nil, get_or, length-drop, take}
 use Rattle.std.specs.Prelude.{Result, Ok, Err, slice_get}
@@ -27,7 +27,7 @@ use Rattle.icescan_text.specs.Reads.{MayEnd, all_present, file_in}
 use Rattle.icescan_text.specs.declared.fault.RunFault.{RunFault}
 use Rattle.icescan_explain.specs.RowsTold.{AreToldOf, is_wanted, row_told, rows_told}
 use Rattle.icescan_explain.specs.Told.{paths_kept, paths_of_data}
-use Rattle.icescan_explain.specs.ToldRanges.{AreTold, AreWantedFrom, TellsRows, between, count_of, wanted_of}
+use Rattle.icescan_explain.specs.ToldRanges.{AreWantedFrom, TellsRows, between, count_of, wanted_of}
 use Rattle.icescan_explain.specs.declared.by_workers.ToldRows.{ToldRows}
 use Rattle.icescan_explain.specs.declared.tests.FilterTests.{FilterTests}
 use Rattle.icescan_explain.specs.declared.verdict.Verdict.{Verdict}
@@ -431,13 +431,13 @@ module _ (told : Option World) (f : List ℕ → Type 0) (gives : Giving) (tests
         device = λ path is. absurd cc;
         write = λ is. absurd cc;
       }
-      where
-        AreGivenIn : Content → Type 0
-        AreGivenIn c = AreSlotsGiven gives scan scan.wanted c
+    where
+      AreGivenIn : Content → Type 0
+      AreGivenIn c = AreSlotsGiven gives scan scan.wanted c
 
-        or_true : (b : Bool) → (b || true) ≡ true
-        or_true true = refl
-        or_true false = refl
+      or_true : (b : Bool) → (b || true) ≡ true
+      or_true true = refl
+      or_true false = refl
 
 -- ---- all rows
 

@@ -1,5 +1,5 @@
 -- What telling of some rows of a scan answers, which are neighbours in the order of their paths.
-use Rattle.std.specs.Prelude.{◌≡◌, ◌⊎◌, ◌+◌, ◌-◌, ◌<◌, ◌≤◌, ℕ, Bool, true, false, List, ◌++◌, drop, filter, length}
+use Rattle.std.specs.Prelude.{◌≡◌, ◌+◌, ◌-◌, ◌<◌, ◌≤◌, ℕ, Bool, true, false, List, ◌++◌, drop, filter, length}
 use Rattle.std.specs.Prelude.{replicate, Option, Some, None, Result, Ok, IfOk, IfErr, IsErrOf}
 use Rattle.ice_desk.specs.Given.{Giving, IsGiven}
 use Rattle.ice_desk.specs.Wanted.{paths_of}

@@ -34,7 +34,10 @@ impl ToldRows {
         ensures state { IfOk result (λ told. told.state ≡ both self.state others.state) }
         ensures verdicts { IfOk result (λ told. told.verdicts ≡ self.verdicts ++ others.verdicts) }
     {
-        let ToldRows { mut state, verdicts } = self;
+        let ToldRows {
+            mut state,
+            verdicts,
+        } = self;
         state.absorb(others.state)?;
         let mut verdicts = verdicts.into_vec();
         let mut more = others.verdicts.into_vec();

@@ -30,14 +30,32 @@ join-told-requires-after_bounds g t c κs within =
     let few : first + length front < 2 ^ 64 = omega (arith, long, c.requires.few) in
     let few_behind : (first + c.count_wanted-wanted.result) + length back < 2 ^ 64 =
     omega (arith, long, counted, few_wanted tests front, c.requires.few) in (
-      (search rules, (search rules, (search rules, (
-        (search rules, search rules, c.requires.by, before, few),
-        (search rules, search rules),
-      )))),
-      (search rules, (search rules, (search rules, (
-        (search rules, search rules, c.requires.by, behind, few_behind),
-        (search rules, search rules),
-      )))),
+      (
+        search rules,
+        (
+          search rules,
+          (
+            search rules,
+            (
+              (search rules, search rules, c.requires.by, before, few),
+              (search rules, search rules),
+            ),
+          ),
+        ),
+      ),
+      (
+        search rules,
+        (
+          search rules,
+          (
+            search rules,
+            (
+              (search rules, search rules, c.requires.by, behind, few_behind),
+              (search rules, search rules),
+            ),
+          ),
+        ),
+      ),
     )
 
 pub returns-in_err-told : goal.returns-in_err-told

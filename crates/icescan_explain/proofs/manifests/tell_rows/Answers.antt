@@ -1,6 +1,6 @@
 use Rattle.std.proofs.Common.{◌≡◌, ◌≤◌, ◌<◌, ◌+◌, ◌-◌, ◌++◌, ◌∙◌, ℕ, true, List, [], ap, append-nil, arith, drop, length}
 use Rattle.std.proofs.Common.{refl, subst, sym, take, cond, false}
-use Rattle.std.specs.Prelude.{Err, Ok, Some, slice_get}
+use Rattle.std.specs.Prelude.{Err, Some, slice_get}
 use Rattle.std.proofs.Math.Seq.{take-length}
 use Rattle.std.proofs.lemmas.List.{append_assoc}
 use Rattle.std.proofs.lemmas.Option.{slice_get-get_or, slice_get_within}
@@ -10,7 +10,7 @@ use Rattle.ice_desk.specs.Given.{IsGiven}
 use Rattle.icescan_explain.specs.declared.verdict.Verdict.{Verdict}
 use Rattle.ice_manifest_fields.proofs.Steps.{end_of, step_of}
 use Rattle.ice_manifest_reading.specs.declared.row.Row.{Row}
-use Rattle.ice_state.specs.Contents.{Content, content, is_row_taken, no_row}
+use Rattle.ice_state.specs.Contents.{Content, content, is_row_taken}
 use Rattle.ice_state.specs.Outcomes.{kept_in}
 use Rattle.icescan_text.specs.Reads.{all_present}
 use Rattle.icescan_text.specs.declared.fault.RunFault.TheVariants as run
