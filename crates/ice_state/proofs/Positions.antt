@@ -59,12 +59,12 @@ each_ranked order ranks all are k low =
     let range = range_with_len 0 n in
     let many : length range ≡ n = length-range_with_len 0 n in
     let of_order : All (HasRank order ranks) order = λ j d l.
-        let at : get_or order j d ≡ slice_index order j = get_or_default order j d 0 l in
-        let back : slice_index ranks (slice_index order j) ≡ j = are.places j l in
-        subst (HasRank order ranks) (sym at) (record {
-          low = rw back l;
-          there = ap (slice_index order) back;
-        }) in
+    let at : get_or order j d ≡ slice_index order j = get_or_default order j d 0 l in
+    let back : slice_index ranks (slice_index order j) ≡ j = are.places j l in
+    subst (HasRank order ranks) (sym at) (record {
+      low = rw back l;
+      there = ap (slice_index order) back;
+    }) in
     let of_range = All-permutation (HasRank order ranks) order range (IsPermutation-sym range order all) of_order in
     let here : get_or range k 0 ≡ k = get_or-range_with_len 0 n k 0 low ∙ omega arith in
     subst (HasRank order ranks) here (of_range k 0 (omega (arith, low, many)))
@@ -89,16 +89,16 @@ module _ (by_path : List EntryNumber) (order ranks : List ℕ) (many : length by
       let count : length found ≡ length order = length-map ranks (λ r. get_or by_path r (Record 0)) ∙ are.many in
       ext_get_or no_entry (entries_at kept found) xs
       (length-map found (entry_at kept) ∙ count ∙ sym same) (λ k l.
-          let low : k < length order = omega (arith, l, length-map found (entry_at kept), count) in
-          let ranked = each_ranked order ranks all are k low in
-          let rank = slice_index ranks k in
-          get_or-map (entry_at kept) found k (Record 0) no_entry (omega (arith, low, count))
-          ∙ ap (entry_at kept) (get_or-map (λ r. get_or by_path r (Record 0)) ranks k 0 (Record 0) (omega (arith, low, are.many)))
-          ∙ sym (get_or-map (entry_at kept) by_path rank (Record 0) no_entry (omega (arith, ranked.low, many)))
-          ∙ ap (λ (ys : List Entry). get_or ys rank no_entry) (is ∙ sym (map-id (entries_at_places xs order))
-          ∙ keys_at (λ x. x) xs order within)
-          ∙ get_or-map (λ i. get_or xs i no_entry) order rank 0 no_entry ranked.low
-          ∙ ap (λ i. get_or xs i no_entry) ranked.there)
+      let low : k < length order = omega (arith, l, length-map found (entry_at kept), count) in
+      let ranked = each_ranked order ranks all are k low in
+      let rank = slice_index ranks k in
+      get_or-map (entry_at kept) found k (Record 0) no_entry (omega (arith, low, count))
+      ∙ ap (entry_at kept) (get_or-map (λ r. get_or by_path r (Record 0)) ranks k 0 (Record 0) (omega (arith, low, are.many)))
+      ∙ sym (get_or-map (entry_at kept) by_path rank (Record 0) no_entry (omega (arith, ranked.low, many)))
+      ∙ ap (λ (ys : List Entry). get_or ys rank no_entry) (is ∙ sym (map-id (entries_at_places xs order))
+      ∙ keys_at (λ x. x) xs order within)
+      ∙ get_or-map (λ i. get_or xs i no_entry) order rank 0 no_entry ranked.low
+      ∙ ap (λ i. get_or xs i no_entry) ranked.there)
 
 kept_at : (kept : Kept) (ns : List EntryNumber) (r : ℕ) → AreKept kept ns → r < length ns
     → IsKept kept (get_or ns r (Record 0))

@@ -24,7 +24,9 @@ const ENTRY_BYTES: usize = 32;
 fn expected(row: &Row, bytes: &[u8]) -> usize {
     let added = row.counts.added_files.unwrap_or(0).max(0) as usize;
     let existing = row.counts.existing_files.unwrap_or(0).max(0) as usize;
-    added.saturating_add(existing).min(bytes.len() / ENTRY_BYTES)
+    added
+        .saturating_add(existing)
+        .min(bytes.len() / ENTRY_BYTES)
 }
 
 /// What a manifest gave: its kept entries, or why it can't be read.
