@@ -108,7 +108,16 @@ fn write_asked<H: Threads + Sync, S, P, F: Files + Sync, W: Sink>(
         Relaxed::Plan => write_plan(system, files, path, request, format, workers, output),
         Relaxed::Explanation => {
             let host = system.host;
-            explain_file(host, system.alloc, files, path, request, workers, format, output)
+            explain_file(
+                host,
+                system.alloc,
+                files,
+                path,
+                request,
+                workers,
+                format,
+                output,
+            )
         }
     }
 }
