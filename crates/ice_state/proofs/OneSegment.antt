@@ -1,12 +1,11 @@
 -- Segments of which one changes.
-use Rattle.std.proofs.Common.{◌≡◌, ◌<◌, ◌++◌, ℕ, zero, suc, [], ◌∷◌, List, refl, sym, ap, subst, length, slice_set}
+use Rattle.std.proofs.Common.{◌≡◌, ◌<◌, ◌++◌, ℕ, zero, suc, [], ◌∷◌, List, refl, ap, length, slice_set}
 use Rattle.std.proofs.Common.{arith}
 use Rattle.ice_manifest_reading.specs.declared.entry.Entry.{Entry}
 use Rattle.ice_state_entries.specs.declared.entries.EntryNumber.{EntryNumber}
 use Rattle.ice_state_entries.specs.Kept.{Kept, Keeps as KeepsIn, AreKept, IsKept, entries_at, entry_at}
 use Rattle.ice_state_entries.proofs.Keeping.{AreAdded, one_added}
 use Rattle.ice_state.specs.Segments.{Segmented, segment_at, Keeps}
-use Rattle.ice_state.proofs.SegmentLists.{keeps-trans}
 
 same_kept : (kept : Kept) → KeepsIn kept kept
 same_kept kept = λ n here. (here, refl)
@@ -45,10 +44,3 @@ one_more old new numbers n e keeps kept here same =
     record { keeps = same_kept old; kept = kept; same = refl } in
     let all = one_added old old new numbers (entries_at old numbers) n e before keeps here same in
     record { kept = all.kept; entries = all.same }
-
--- what was read between keeps what was kept
-pub keeps_read : (old mid first last new : Segmented) → Keeps old mid → first ≡ mid → Keeps first last → new ≡ last
-    → Keeps old new
-keeps_read old mid first last new before is read end =
-    keeps-trans old mid new before (subst (λ (s : Segmented). Keeps s new) is
-    (subst (λ (s : Segmented). Keeps first s) (sym end) read))

@@ -1,18 +1,11 @@
 -- Taking the manifest of a row.
-use Rattle.std.proofs.Common.{◌≡◌, ◌∙◌, ℕ, zero, suc, true, [], ◌∷◌, List, Option, Some, None, Result, Ok, Err, refl}
-use Rattle.std.proofs.Common.{ap}
+use Rattle.std.proofs.Common.{◌≡◌, ◌∙◌, ℕ, zero, suc, true, [], ◌∷◌, List, Option, Some, None, ap, refl}
 use Rattle.std.proofs.Common.{get_or, slice_get}
 use Rattle.ice_meta.specs.declared.spec.Spec.{Spec}
 use Rattle.ice_manifest_reading.specs.declared.row.Row.{Row}
-use Rattle.ice_manifest_fields.specs.declared.fault.ManifestFault.{ManifestFault}
-use Rattle.ice_manifest_reading.specs.declared.entry.Entry.{Entry}
-use Rattle.ice_manifest_reading.specs.declared.entry.Live.{Live}
-use Rattle.ice_manifest_reading.specs.Collecting.{behind}
-use Rattle.ice_manifest_reading.specs.Manifests.{live_of, kept_of}
-use Rattle.ice_state.specs.Contents.{Content, is_row_taken, took_at, manifest_of, live_by, reading, with_row}
-use Rattle.ice_state.specs.Pruning.{Pruner, keeps}
+use Rattle.ice_manifest_reading.specs.Manifests.{live_of}
+use Rattle.ice_state.specs.Contents.{Content, is_row_taken, took_at, manifest_of, live_by, with_row}
 use Rattle.ice_state.specs.Readings.{Reading}
-use Rattle.ice_state.specs.Readings.{Good, Bad}
 use Rattle.ice_state.specs.Scans.{Scanned, spec_at}
 use Rattle.ice_state.specs.Specs.{spec_of}
 
@@ -45,15 +38,3 @@ manifest_is scan i row here spec bytes at is of =
     let same : row ≡ here = same_row scan.wanted i row here at is in
     let by : spec_of scan.specs row.spec_id ≡ Some spec = rw at at of in
     ap (λ (o : Option Spec). live_by o row bytes) by ∙ ap (λ (r : Row). live_of r spec bytes) same
-
--- what was gathered is what the manifest gave
-pub reading_good : (p : Pruner) (read : Result (List Live) ManifestFault) (front found : List Entry) → front ≡ []
-    → behind front (kept_of (keeps p) read) ≡ Ok found → reading p read ≡ Good found
-reading_good p (Ok ls) [] found none is = cc
-reading_good p (Err f) [] found none is = absurd cc
-reading_good p read (x ∷ xs) found none is = absurd cc
-
-pub bad_reading : (p : Pruner) (read : Result (List Live) ManifestFault) (front : List Entry) (f : ManifestFault)
-    → behind front (kept_of (keeps p) read) ≡ Err f → Bad f ≡ reading p read
-bad_reading p (Ok ls) front f is = absurd cc
-bad_reading p (Err g) front f is = let same : f ≡ g = cc in ap Bad same

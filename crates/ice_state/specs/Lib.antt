@@ -26,5 +26,4 @@ pub mod Slots
 pub mod Snapshots
 pub mod Specs
 pub mod Stretches
-pub mod PutSoFar
 pub mod Refusals
