@@ -330,8 +330,8 @@ fn planned(
 }
 
 /// The files of all kept entries in the order of their paths. Stops at the first path that two of them share. Where the
-/// rows' files rise one row behind the other, no path is looked at; where their data files do, none of a data file is
-/// sorted.
+/// rows' files rise one row behind the other, no path is looked at; where those that gave data files rise so, the data
+/// files are not sorted.
 fn files_by_path(
     alloc: Global,
     entries: &Segments,
