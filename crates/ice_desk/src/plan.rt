@@ -235,6 +235,6 @@ pub fn plan_scan<R: Threads + Sync, F: Files + Sync, G: Gate + Sync>(
     let workers = scan.workers(workers);
     let (mut state, _) = take_by_workers(rt, alloc, files, scan, workers, gate)?;
     take_wanted(alloc, files, scan, &mut state)?;
-    let plan = state.into_plan(scan)?;
+    let plan = state.into_plan_by(rt, scan, workers)?;
     Ok(plan)
 }

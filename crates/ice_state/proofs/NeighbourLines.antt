@@ -2,7 +2,7 @@
 use Rattle.std.proofs.Common.{◌≡◌, ◌<◌, ◌&&◌, ◌||◌, ◌∙◌, ◌++◌, ◌-◌, ℕ, ℤ, zero, suc, Bool, true, false, List, [], ◌∷◌}
 use Rattle.std.proofs.Common.{filter, map, cond}
 use Rattle.std.proofs.Common.{refl, sym, ap, arith, Option, Some, None, is_some, length, get_or, take, replicate}
-use Rattle.std.proofs.Common.{◌+◌, ◌≤◌, add-zero, append_assoc}
+use Rattle.std.proofs.Common.{◌+◌, ◌≤◌, inl, inr, eq-or-lt_of_le, add-zero, append_assoc}
 use Rattle.std.proofs.lemmas.List.{append-nil}
 use Rattle.std.specs.List.{list_any}
 use Rattle.ice_value.specs.declared.cell.Cell.{Cell}
@@ -147,3 +147,25 @@ module _ (ranks : List ℕ) (index : List (ℕ × DeleteKey)) (kept : Segmented)
         sym (neighbour_places ranks index (get_or files i no_entry) (get_or files k no_entry) none
         (beside k (omega (arith, a)) (omega (arith, b, e)))))
         ∙ ap (λ (n : ℕ). map f (entries_at kept (take n ns))) e
+
+  -- those of files that are like one before them
+  pub stretch_again : (i : ℕ) (lines : List LinePlaces) → lines ≡ map f (entries_at kept (take i ns)) → (j next : ℕ)
+      → j < i → AreNeighbours (get_or (entries_at kept ns) j no_entry) (get_or (entries_at kept ns) i no_entry)
+      → list_any names_one index ≡ false → i < next → next ≤ length ns → AreBeside (entries_at kept ns) i next
+      → lines ++ replicate (next - i) (line_in lines j) ≡ map f (entries_at kept (take next ns))
+  stretch_again i lines are j next before near none after within beside =
+      let files = entries_at kept ns in
+      let one : Entry = get_or files j no_entry in
+      let line : line_in lines j ≡ f one =
+      ap (λ ls. line_in ls j) are ∙ line_at_place f kept ns i j before (omega (arith, before, after, within)) in
+      let here : f (get_or files i no_entry) ≡ f one =
+      sym (neighbour_places ranks index one (get_or files i no_entry) none near) in
+      let e : i + (next - i) ≡ next = omega (arith, after) in
+      (λ k. are k ++ replicate (next - i) (line k))
+      ∙ many_more (f one) (next - i) i (omega (arith, e, within)) (λ k low high.
+      elim (eq-or-lt_of_le low) as (λ _. f (get_or files k no_entry) ≡ f one) [
+        | inl same ↦ ap (λ n. f (get_or files n no_entry)) (sym same) ∙ here
+        | inr less ↦ sym (neighbour_places ranks index (get_or files i no_entry) (get_or files k no_entry) none
+            (beside k less (omega (arith, high, e)))) ∙ here
+      ])
+      ∙ ap (λ (n : ℕ). map f (entries_at kept (take n ns))) e

@@ -17,3 +17,10 @@ pub record IsStretch (segments : Segmented) (files : List FileNumber) (first end
   pub after : first < end
   pub within : end ≤ length files
   pub alike : AreLikeFirst (entries_at segments files) first end
+
+-- a file at a place before another, and like that one
+abbrev pub IsLikeBefore : Segmented → List FileNumber → ℕ → ℕ → Type 0
+IsLikeBefore segments files place i =
+    (i < place) ×
+    AreAlike (slice_index_or (entries_at segments files) i no_entry)
+    (slice_index_or (entries_at segments files) place no_entry)

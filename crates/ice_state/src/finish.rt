@@ -28,16 +28,19 @@ pub mod apart;
 pub mod by_kind;
 pub mod deletes;
 pub mod file_places;
+pub mod helpers;
 pub mod in_order;
 pub mod ranks;
+pub mod recent;
 
 use crate::fault::FinishFault;
-use crate::finish::apart::are_apart;
 use crate::finish::by_kind::{FilesByKind, gathered};
 use crate::finish::deletes::push_places;
 use crate::finish::file_places::places_among;
+use crate::finish::helpers::Helpers;
 use crate::finish::in_order::{sort_by_path, sorted_by_path};
 use crate::finish::ranks::ranks;
+use crate::finish::recent::Recent;
 use crate::kept::deletes::KeptDeletes;
 use crate::kept::indexed::IndexedDeletes;
 use crate::kept::ordered::{order_of_files, rows_by_first_path};
@@ -122,12 +125,14 @@ fn check_once(alloc: Global, entries: &Segments, files: &FilesByKind) -> Result<
 
 /// Puts files in the order of their paths, of which the data files' may be known to rise. Stops at the first path that
 /// two of them share.
-fn put_in_order(
+fn put_in_order<H: Helpers>(
+    helpers: &H,
     alloc: Global,
     entries: &Segments,
     files: &mut FilesByKind,
     rise: bool,
 ) -> Result<(), FinishFault>
+    requires ready { H.ready helpers.now }
     requires kept { AreKeptByKind entries.now files.old }
     requires rise { IsTrue rise → HaveRisingPaths (entries_at entries.now files.old.data_files.items) }
     ensures sorted { (xs : List Entry) → HasFilesOf entries.now xs files.old →
@@ -135,9 +140,12 @@ fn put_in_order(
     ensures once { (xs : List Entry) → HasFilesOf entries.now xs files.old →
         MatchResult result (λ _. twice (by_path xs) ≡ []) (λ f. Stops f (twice (by_path xs))) }
 {
-    let rise = sort_by_path(alloc, entries, &mut files.data_files, rise)?;
-    let deletes_rise = sort_by_path(alloc, entries, &mut files.delete_files, false)?;
-    if rise && deletes_rise && are_apart(entries, &files.data_files, &files.delete_files) {
+    let rise = sort_by_path(helpers, alloc, entries, &mut files.data_files, rise)?;
+    let deletes_rise = sort_by_path(helpers, alloc, entries, &mut files.delete_files, false)?;
+    if rise
+        && deletes_rise
+        && helpers.are_apart(entries, &files.data_files, &files.delete_files)
+    {
         return Ok(());
     }
     // As far as that tells, two share a path. All of them, sorted together, say which.
@@ -240,7 +248,8 @@ fn end_of_stretch(entries: &Segments, files: &[FileNumber], first: usize) -> usi
     end
 }
 
-/// The same, a stretch of files that are alike after the other.
+/// The same, a stretch of files that are alike after the other. One that is like a file before it, where that is
+/// remembered, is not looked up.
 fn stretches_looked_up(
     alloc: Global,
     entries: &Segments,
@@ -256,12 +265,18 @@ fn stretches_looked_up(
 {
     let mut places = SharedPlaces::with_capacity(alloc, files.len())?;
     let mut finder = Finder::new(index);
+    let mut recent = Recent::new(alloc)?;
     let mut first = 0;
     'stretches: while first < files.len() {
-        let entry = entries.entry(files[first]);
-        push_places(&mut places, &mut finder, ranks, &entry)?;
         let end = end_of_stretch(entries, files, first);
-        places.push_again(first, end - first - 1)?;
+        if let Some(place) = recent.like(entries, files, first) {
+            places.push_again(place, end - first)?;
+        } else {
+            let entry = entries.entry(files[first]);
+            push_places(&mut places, &mut finder, ranks, &entry)?;
+            places.push_again(first, end - first - 1)?;
+            recent.remember(entries, files, first);
+        }
         first = end;
     }
     Ok(places)
@@ -332,13 +347,15 @@ fn planned(
 /// The files of all kept entries in the order of their paths. Stops at the first path that two of them share. Where the
 /// rows' files rise one row behind the other, no path is looked at; where those that gave data files rise so, the data
 /// files are not sorted.
-fn files_by_path(
+fn files_by_path<H: Helpers>(
+    helpers: &H,
     alloc: Global,
     entries: &Segments,
     slots: &[Option<Taken>],
     deletes: &Option<KeptDeletes>,
 ) -> Result<FilesByKind, FinishFault>
-    requires { IsState entries.now slots.now deletes.now }
+    requires ready { H.ready helpers.now }
+    requires state { IsState entries.now slots.now deletes.now }
     ensures { (xs : List Entry) × IsPermutation (kept_in (contents entries.now slots.now)) xs
         × MatchResult result (AreInOrder entries.now xs) (λ f. Stops f (twice (by_path xs))) }
 {
@@ -346,19 +363,21 @@ fn files_by_path(
     let mut files = gathered(alloc, entries, slots, deletes, rows.as_slice())?;
     if !rows_rise(entries, slots, rows.as_slice()) {
         let rise = data_files_rise(alloc, entries, slots, rows.as_slice(), &files)?;
-        put_in_order(alloc, entries, &mut files, rise)?;
+        put_in_order(helpers, alloc, entries, &mut files, rise)?;
     }
     Ok(files)
 }
 
 /// The plan of slots, or their first fault.
-pub fn plan_or_fault(
+pub fn plan_or_fault<H: Helpers>(
+    helpers: &H,
     alloc: Global,
     rows: &[Row],
     entries: &Segments,
     slots: &[Option<Taken>],
     deletes: &Option<KeptDeletes>,
 ) -> Result<NumberedPlan, FinishFault>
+    requires ready { H.ready helpers.now }
     requires each { length rows.now ≡ length slots.now }
     requires kept { IsState entries.now slots.now deletes.now }
     ensures planned { IfOk result (IsPlanned entries.now) }
@@ -367,6 +386,6 @@ pub fn plan_or_fault(
 {
     check_taken(alloc, rows, slots)?;
     check_good(alloc, rows, slots)?;
-    let files = files_by_path(alloc, entries, slots, deletes)?;
+    let files = files_by_path(helpers, alloc, entries, slots, deletes)?;
     Ok(planned(alloc, entries, deletes, files)?)
 }

@@ -2,6 +2,7 @@
 
 pub mod deletes;
 pub mod gathering;
+pub mod halves;
 pub mod handing;
 pub mod indexed;
 pub mod merging;

@@ -20,6 +20,7 @@ ghost use Rattle.ice_state.specs.Scans.{Scanned, IsScanOf};
 ghost use Rattle.ice_state.specs.Snapshots.{plan_of_snapshot};
 
 use crate::fault::FinishFault;
+use crate::finish::helpers::{NoHelpers, Workers};
 use crate::finish::plan_or_fault;
 use crate::kept::deletes::{
     KeptDeletes, absorbed_behind, absorbed_deletes, with_absorbed, with_gained, with_index_of_all,
@@ -37,6 +38,7 @@ use avro_file::KnownSchema;
 use ice_manifest_reading::{Entry, ManifestFault, Silent, Tell, read_told};
 use std::alloc::{AllocError, Global};
 use std::marker::Model;
+use std::thread::Threads;
 
 /// What the wanted rows gave that were taken: of each the numbers of its kept entries, which are kept in segments.
 #[derive(Debug, Drop)]
@@ -359,6 +361,7 @@ impl Partial {
     {
         filtering();
         let numbered = plan_or_fault(
+            &NoHelpers,
             self.alloc,
             scan.wanted(),
             &self.entries,
@@ -387,6 +390,7 @@ impl Partial {
         filtering();
         let deletes = with_index_of_all(self.alloc, self.deletes, &self.entries);
         let numbered = plan_or_fault(
+            &NoHelpers,
             self.alloc,
             scan.wanted(),
             &self.entries,
@@ -398,4 +402,37 @@ impl Partial {
             numbered,
         })
     }
-}
+    /// The same as `into_plan` by so many workers, each in a thread of its own where one can be started.
+    pub fn into_plan_by<R: Threads + Sync>(
+        self,
+        rt: &R,
+        scan: &Scan,
+        workers: usize,
+    ) -> Result<OwnedPlan, FinishFault>
+        requires { IsOf scan.now self }
+
+        ensures outcome { Gives FinishFault.Memory (λ plan. plan) result (outcome scan.now self) }
+        ensures snapshot { (world : World) (rows : List Row) (specs : List Spec) →
+            IsScanOf rows specs scan.now →
+            AreCovered world specs rows →
+            HasEach world scan.now.wanted →
+            self ≡ content world scan.now (every_row scan.now) →
+            Gives FinishFault.Memory (λ plan. plan) result
+            (plan_of_snapshot (pruner_of scan.now.filter specs) world specs rows) }
+    {
+        filtering();
+        let deletes = with_index_of_all(self.alloc, self.deletes, &self.entries);
+        let helpers = Workers { rt, count: workers };
+        let numbered = plan_or_fault(
+            &helpers,
+            self.alloc,
+            scan.wanted(),
+            &self.entries,
+            &self.slots,
+            &deletes,
+        )?;
+        Ok(OwnedPlan {
+            entries: self.entries,
+            numbered,
+        })
+    }}

@@ -13,6 +13,7 @@ ghost use Rattle.ice_state.specs.Placed.{AreEachPlaced, ArePlaced, entries_place
 ghost use Rattle.ice_state.specs.Segments.{AreKept as AreKeptFiles, entries_at as entries_of, Keeps, segment_at};
 ghost use Rattle.ice_state.specs.Slots.{HasNumbers, HaveNumbers};
 
+use crate::finish::helpers::{Helpers, NoHelpers};
 use crate::finish::ranks::ranks;
 use crate::kept::segments::{FileNumber, Segments};
 use crate::kept::sorting::{Placed, sort_by_path};
@@ -146,7 +147,7 @@ fn places_of_views(alloc: Global, views: &[EntryView<'_>]) -> Result<SortedPlace
     ensures once { IfOk result (λ places. IsTrue places.rise → twice (by_path views.now) ≡ []) }
 {
     let placed = paths_of_views(alloc, views)?;
-    sorted_places(alloc, placed)
+    sorted_places(&NoHelpers, alloc, placed)
 }
 
 /// The places of entries in the order of their paths, and whether these rise. More entries than can be numbered count
@@ -162,22 +163,24 @@ fn places_in_order(
         twice (by_path (entries_at entries.now numbers.now)) ≡ []) }
 {
     let placed = paths_of(alloc, entries, numbers)?;
-    sorted_places(alloc, placed)
+    sorted_places(&NoHelpers, alloc, placed)
 }
 
 /// The same of entries in many segments.
-pub fn places_by_path(
+pub fn places_by_path<H: Helpers>(
+    helpers: &H,
     alloc: Global,
     entries: &Segments,
     files: &[FileNumber],
 ) -> Result<SortedPlaces, AllocError>
-    requires { AreKeptFiles entries.now files.now }
+    requires ready { H.ready helpers.now }
+    requires files { AreKeptFiles entries.now files.now }
     ensures order { IfOk result (λ places. IsOrder (entries_of entries.now files.now) places.order) }
     ensures once { IfOk result (λ places. IsTrue places.rise →
         twice (by_path (entries_of entries.now files.now)) ≡ []) }
 {
     let placed = paths_of_files(alloc, entries, files)?;
-    sorted_places(alloc, placed)
+    sorted_places(helpers, alloc, placed)
 }
 
 /// The order alone.
@@ -189,7 +192,7 @@ pub fn order_of_files(
     requires { AreKeptFiles entries.now files.now }
     ensures { IfOk result (IsOrder (entries_of entries.now files.now)) }
 {
-    let places = places_by_path(alloc, entries, files)?;
+    let places = places_by_path(&NoHelpers, alloc, entries, files)?;
     Ok(places.order)
 }
 
@@ -281,7 +284,7 @@ pub fn rows_by_first_path(
     ensures { IfOk result (λ rows. IsPermutation (range_with_len 0 (length slots.now)) rows) }
 {
     let mut placed = first_paths(alloc, entries, slots)?;
-    let _ = sort_by_path(&mut placed)?;
+    let _ = sort_by_path(&NoHelpers, &mut placed)?;
     places_of(alloc, &placed)
 }
 
@@ -332,14 +335,19 @@ pub struct SortedPlaces {
 }
 
 /// The places of all entries, in the order of the paths.
-fn sorted_places(alloc: Global, placed: Vec<Placed<'_>>) -> Result<SortedPlaces, AllocError>
+fn sorted_places<H: Helpers>(
+    helpers: &H,
+    alloc: Global,
+    placed: Vec<Placed<'_>>,
+) -> Result<SortedPlaces, AllocError>
+    requires { H.ready helpers.now }
     ensures order { (entries : List Entry) → AreEachPlaced entries placed.entry.items →
         IfOk result (λ places. IsOrder entries places.order) }
     ensures once { (entries : List Entry) → AreEachPlaced entries placed.entry.items →
         IfOk result (λ places. IsTrue places.rise → twice (by_path entries) ≡ []) }
 {
     let mut placed = placed;
-    let rise = sort_by_path(&mut placed)?;
+    let rise = sort_by_path(helpers, &mut placed)?;
     let order = places_of(alloc, &placed)?;
     Ok(SortedPlaces { order, rise })
 }

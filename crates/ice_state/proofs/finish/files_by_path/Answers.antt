@@ -16,81 +16,82 @@ use Rattle.ice_state.specs.Slots.{contents}
 use Rattle.ice_state.proofs.RankedIndex.{order_below}
 use Rattle.ice_state.proofs.RowsMoved.{rows_moved}
 use Rattle.ice_state.proofs.SlotContents.{length-contents}
+use Rattle.ice_state.proofs.finish.files_by_path.Given.{Over}
 use Rattle.ice_state.proofs.finish.files_by_path.Goals as goal
 use Rattle.ice_state.proofs.finish.files_by_path.Goals.{In_ok-rows, In_ok-files}
 use Rattle.ice_state.proofs.finish.files_by_path.Goals.{then-not-rows_rise+in_ok-rise+in_ok-put_in_order, else-not-rows_rise}
 
 -- the rows' files are those of the content, in another order
-moved : (c : In_ok-rows) → IsPermutation (kept_in (contents c.args.entries.now c.args.slots.now))
+moved : (g : Over) (c : In_ok-rows g) → IsPermutation (kept_in (contents c.args.entries.now c.args.slots.now))
     (runs_at (contents c.args.entries.now c.args.slots.now) c.in_ok-rows.rows)
-moved c =
+moved g c =
     let cs = contents c.args.entries.now c.args.slots.now in
     rows_moved cs c.in_ok-rows.rows (subst (λ (n : ℕ). IsPermutation (range_with_len 0 n) c.in_ok-rows.rows)
     (sym (length-contents c.args.entries.now c.args.slots.now)) c.in_ok-rows.ensures)
 
-has : (c : In_ok-files) → HasFilesOf c.args.entries.now
+has : (g : Over) (c : In_ok-files g) → HasFilesOf c.args.entries.now
     (runs_at (contents c.args.entries.now c.args.slots.now) c.in_ok-rows.rows) c.in_ok-files.files
-has c = subst (λ (ns : List ℕ). HasFilesOf c.args.entries.now
+has g c = subst (λ (ns : List ℕ). HasFilesOf c.args.entries.now
     (runs_at (contents c.args.entries.now c.args.slots.now) ns) c.in_ok-files.files) c.as_slice.ensures
     c.in_ok-files.ensures
 
 -- the rows are places of slots
-within : (c : In_ok-rows) → AreWithin (length c.args.slots.now) c.in_ok-rows.rows
-within c =
+within : (g : Over) (c : In_ok-rows g) → AreWithin (length c.args.slots.now) c.in_ok-rows.rows
+within g c =
     let n = length c.args.slots.now in
     recursion_from_All (λ k. k < n) c.in_ok-rows.rows (order_below n c.in_ok-rows.rows c.in_ok-rows.ensures)
 
 pub rows_rise-requires-clause-rows : goal.rows_rise-requires-clause-rows
-rows_rise-requires-clause-rows c =
+rows_rise-requires-clause-rows g c =
     subst (AreWithin (length c.args.slots.now)) (sym c.as_slice-2.ensures)
-    (within (goal.at.rows_rise-requires-clause-rows c).In_ok-rows)
+    (within g (goal.at.rows_rise-requires-clause-rows g c).In_ok-rows)
 
 pub data_files_rise-requires-clause-rows : goal.data_files_rise-requires-clause-rows
-data_files_rise-requires-clause-rows c =
+data_files_rise-requires-clause-rows g c =
     subst (AreWithin (length c.args.slots.now)) (sym c.as_slice-then-not-rows_rise.ensures)
-    (within (goal.at.data_files_rise-requires-clause-rows c).In_ok-rows)
+    (within g (goal.at.data_files_rise-requires-clause-rows g c).In_ok-rows)
 
 pub put_in_order-requires-clause-rise : goal.put_in_order-requires-clause-rise
-put_in_order-requires-clause-rise c = λ t.
+put_in_order-requires-clause-rise g c = λ t.
     let cs = contents c.args.entries.now c.args.slots.now in
     subst HaveRisingPaths (ap (λ rows. filter (holds Data) (runs_at cs rows)) c.as_slice-then-not-rows_rise.ensures
-    ∙ sym (has (goal.at.put_in_order-requires-clause-rise c).In_ok-files).all) (c.in_ok-rise.ensures t)
+    ∙ sym (has g (goal.at.put_in_order-requires-clause-rise g c).In_ok-files).all) (c.in_ok-rise.ensures t)
 
 pub returns-in_err-rise : goal.returns-in_err-rise
-returns-in_err-rise c =
+returns-in_err-rise g c =
     let all = kept_in (contents c.args.entries.now c.args.slots.now) in
     let p = err_from_is_err_and c.from_residual-in_err-rise.result c.from_residual-in_err-rise.ensures.1 in
     (all, IsPermutation-refl all, rw (p.1, p.2) tt)
 
 pub returns-in_err-rows : goal.returns-in_err-rows
-returns-in_err-rows c =
+returns-in_err-rows g c =
     let all = kept_in (contents c.args.entries.now c.args.slots.now) in
     let p = err_from_is_err_and c.from_residual.result c.from_residual.ensures.1 in
     (all, IsPermutation-refl all, rw (p.1, p.2) tt)
 
 pub returns-in_err-files : goal.returns-in_err-files
-returns-in_err-files c =
+returns-in_err-files g c =
     let all = kept_in (contents c.args.entries.now c.args.slots.now) in
     let p = err_from_is_err_and c.from_residual-in_err-files.result c.from_residual-in_err-files.ensures.1 in
     (all, IsPermutation-refl all, rw (p.1, p.2) tt)
 
 pub returns-in_err-put_in_order : goal.returns-in_err-put_in_order
-returns-in_err-put_in_order c =
-    let at = goal.at.returns-in_err-put_in_order c in
+returns-in_err-put_in_order g c =
+    let at = goal.at.returns-in_err-put_in_order g c in
     let xs = runs_at (contents c.args.entries.now c.args.slots.now) c.in_ok-rows.rows in
     let p = err_from_is_err_and c.from_residual-in_err-put_in_order.result
     c.from_residual-in_err-put_in_order.ensures.1 in
-    (xs, moved at.In_ok-rows, rw (p.1, p.2) (c.in_err-put_in_order.ensures.once xs (has at.In_ok-files)))
+    (xs, moved g at.In_ok-rows, rw (p.1, p.2) (c.in_err-put_in_order.ensures.once xs (has g at.In_ok-files)))
 
 pub returns : goal.returns
-returns c =
+returns g c =
     let kept = c.args.entries.now in
     let cs = contents kept c.args.slots.now in
     let xs = runs_at cs c.in_ok-rows.rows in
-    let at = goal.at.returns c in
-    let here = has at.In_ok-files in (
+    let at = goal.at.returns g c in
+    let here = has g at.In_ok-files in (
       xs,
-      moved at.In_ok-rows,
+      moved g at.In_ok-rows,
       elim c.if-not-rows_rise.branch [
         | then-not-rows_rise+in_ok-rise+in_ok-put_in_order w ↦
             let put = w.in_ok-put_in_order.ensures in

@@ -7,13 +7,29 @@ use Rattle.ice_state.specs.declared.kept.segments.FileNumber.{FileNumber}
 use Rattle.ice_state.specs.Applying.{data_key_of}
 use Rattle.ice_state.specs.Parts.{places_of}
 use Rattle.ice_state.specs.Segments.{entries_at}
-use Rattle.ice_state.proofs.NeighbourLines.{stretch}
+use Rattle.ice_state.proofs.NeighbourLines.{stretch, stretch_again}
 use Rattle.ice_state.proofs.Stretches.{alike_beside, number_kept}
 use Rattle.ice_state.proofs.finish.stretches_looked_up.Goals as goal
 
 pub entry-entry-requires : goal.entry-entry-requires
 entry-entry-requires c =
     number_kept c.args.entries.now c.args.files.now c.stretches.first _ c.requires.files c.stretches-test.true
+
+pub stretches-preserved-in_ok-push_again : goal.stretches-preserved-in_ok-push_again
+stretches-preserved-in_ok-push_again c =
+    let at = c.end_of_stretch-end.ensures in
+    let files = c.args.files.now in
+    let first = c.stretches.first in
+    let end = c.end_of_stretch-end.result in
+    let like = c.in-Some.ensures in
+    record {
+      within = at.within;
+      same = c.stretches.invariant.same;
+      all = c.in_ok-push_again.ensures.ok ∙ stretch_again c.args.ranks.now c.args.index.now c.args.entries.now files first
+          c.stretches.places c.stretches.invariant.all c.in-Some.place end like.0
+          (record { spec = like.1.spec; tuple = like.1.tuple; number = like.1.number }) c.requires.unnamed at.after
+          at.within (alike_beside (entries_at c.args.entries.now files) first end at.alike);
+    }
 
 pub stretches-preserved : goal.stretches-preserved
 stretches-preserved c =
@@ -30,7 +46,7 @@ stretches-preserved c =
     record {
       within = at.within;
       same = c.push_places.ensures.same ∙ c.stretches.invariant.same;
-      all = c.in_ok-push_again.ensures.ok ∙ stretch ranks index kept files first c.stretches-test.true old
+      all = c.in_ok-push_again-2.ensures.ok ∙ stretch ranks index kept files first c.stretches-test.true old
           c.push_places.new.places c.stretches.invariant.all _ (lent c.entry-entry.result) c.entry-entry.ensures pushed
           c.requires.unnamed end at.after at.within (alike_beside (entries_at kept files) first end at.alike);
     }

@@ -5,7 +5,7 @@ use Rattle.ice_state.specs.Segments.{entry_at, entries_at}
 use Rattle.ice_state.proofs.kept.ordered.places_by_path.Goals as goal
 
 pub returns-clause-order : goal.returns-clause-order
-returns-clause-order c =
+returns-clause-order g c =
     let kept = c.args.entries.now in
     let numbers = c.args.files.now in
     let found = c.in_ok-placed.ensures in
@@ -16,7 +16,7 @@ returns-clause-order c =
     })
 
 pub returns-clause-once : goal.returns-clause-once
-returns-clause-once c =
+returns-clause-once g c =
     let kept = c.args.entries.now in
     let numbers = c.args.files.now in
     let found = c.in_ok-placed.ensures in

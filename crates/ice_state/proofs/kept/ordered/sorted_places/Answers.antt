@@ -8,7 +8,7 @@ use Rattle.ice_state.proofs.Orders.{is_order}
 use Rattle.ice_state.proofs.kept.ordered.sorted_places.Goals as goal
 
 pub returns-clause-order : goal.returns-clause-order
-returns-clause-order c = λ xs is.
+returns-clause-order g c = λ xs is.
     let after = c.in_ok-rise.ensures in
     let sorted = c.sort_by_path.new.placed.items in
     let all = subst (λ (ps : List ℕ). IsPermutation ps (map place_of sorted)) is.places after.same in
@@ -16,7 +16,7 @@ returns-clause-order c = λ xs is.
     subst (IsOrder xs) (sym (c.in_ok-order.ensures ∙ ap (map place_of) c.deref.ensures.value)) order
 
 pub returns-clause-once : goal.returns-clause-once
-returns-clause-once c = λ xs is t.
+returns-clause-once g c = λ xs is t.
     let after = c.in_ok-rise.ensures in
     subst (λ (ys : List Entry). twice ys ≡ []) (after.sorted xs is.placed ∙ ap by_path is.all)
     (after.once xs is.placed t)
