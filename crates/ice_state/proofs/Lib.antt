@@ -17,6 +17,7 @@ pub mod KeyedPaths
 pub mod Keys
 pub mod Lent
 pub mod LinesAt
+pub mod MovedParts
 pub mod Named
 pub mod NeighbourLines
 pub mod OfSpecs
@@ -44,7 +45,6 @@ pub mod Sharing
 pub mod SlotContents
 pub mod Snapshots
 pub mod SortedAlike
-pub mod SortedParts
 pub mod Specs
 pub mod Spelled
 pub mod Stretches
