@@ -1,11 +1,16 @@
 //! Whether files share no path with others.
 
 ghost use Rattle.std.specs.Prelude.{◌≡◌, ◌<◌, ◌≤◌, IfSome, IsTrue, length};
-ghost use Rattle.ice_state.specs.Apart.{IsBehind, IsGap, IsInFront, IsRun, path_at, ShareNoPath};
+ghost use Rattle.std.specs.Thread.{IsSync};
+ghost use Rattle.ice_state.specs.Apart.{AreSorted, IsBehind, IsGap, IsInFront, IsRun, path_at, ShareNoPath};
 ghost use Rattle.ice_state.specs.Outcomes.{by_path};
 ghost use Rattle.ice_state.specs.Segments.{AreKept, entries_at};
 
 use crate::kept::segments::{FileNumber, Segments};
+use std::thread::{Threads, join};
+
+/// How many files are worth a thread, at the least.
+const WORTH: usize = 2048;
 
 /// Whether files in order share no path with others. Found from the fewer of them, since their paths often stand
 /// together between two of the others.
@@ -23,9 +28,68 @@ pub fn are_apart(entries: &Segments, files: &[FileNumber], others: &[FileNumber]
     are_in_gaps(entries, files, others, stride)
 }
 
+/// Whether files in order share no path with others, found by so many workers from the fewer of them, since their paths
+/// often stand together between two of the others.
+pub fn are_apart_by_workers<R: Threads + Sync>(
+    rt: &R,
+    entries: &Segments,
+    files: &[FileNumber],
+    others: &[FileNumber],
+    workers: usize,
+) -> bool
+    requires files { AreKept entries.now files.now }
+    requires others { AreKept entries.now others.now }
+    requires sorted { by_path (entries_at entries.now files.now) ≡ entries_at entries.now files.now }
+    requires sorted_others { by_path (entries_at entries.now others.now) ≡ entries_at entries.now others.now }
+    ensures { IsTrue result → ShareNoPath (entries_at entries.now files.now) (entries_at entries.now others.now) }
+{
+    let stride = stride_of(files.len(), others.len());
+    if files.len() < others.len() {
+        return are_in_gaps_by_workers(rt, entries, others, files, stride, workers);
+    }
+    are_in_gaps_by_workers(rt, entries, files, others, stride, workers)
+}
+
 /// How many of the more files there are from one of the fewer to the next, where these are spread evenly.
 fn stride_of(files: usize, others: usize) -> usize {
     files.max(others) / files.min(others).max(1)
+}
+
+/// The same as `are_in_gaps` by so many workers, if there are enough paths for each: by halves of the workers, each
+/// half with its share of the paths, which are neighbours, in a thread of its own where one can be started.
+fn are_in_gaps_by_workers<R: Threads + Sync>(
+    rt: &R,
+    entries: &Segments,
+    files: &[FileNumber],
+    some: &[FileNumber],
+    stride: usize,
+    workers: usize,
+) -> bool
+    requires files { AreSorted entries.now files.now }
+    requires some { AreSorted entries.now some.now }
+    ensures { IsTrue result → ShareNoPath (entries_at entries.now files.now) (entries_at entries.now some.now) }
+{
+    let workers = workers.min(some.len() / WORTH);
+    if workers < 2 {
+        return are_in_gaps(entries, files, some, stride);
+    }
+    let half = workers / 2;
+    let other_half = workers - half;
+    let (front, back) = some.split_at(some.len() / workers * half);
+    let (first, second) = join(
+        rt,
+        || -> bool
+            requires { IsSync R.row × AreSorted entries.now files.now × AreSorted entries.now front.now }
+            ensures { IsTrue result → ShareNoPath (entries_at entries.entry.now files.entry.now)
+                (entries_at entries.entry.now front.entry.now) }
+        { are_in_gaps_by_workers(rt, entries, files, front, stride, half) },
+        || -> bool
+            requires { IsSync R.row × AreSorted entries.now files.now × AreSorted entries.now back.now }
+            ensures { IsTrue result → ShareNoPath (entries_at entries.entry.now files.entry.now)
+                (entries_at entries.entry.now back.entry.now) }
+        { are_in_gaps_by_workers(rt, entries, files, back, stride, other_half) },
+    );
+    first && second
 }
 
 /// Whether none of some paths is one of those of the files, gap by gap, each of which is looked for about so far behind
