@@ -45,6 +45,7 @@ pub mod Sharing
 pub mod SlotContents
 pub mod Snapshots
 pub mod SortedAlike
+pub mod SortedParts
 pub mod Specs
 pub mod Spelled
 pub mod Stretches

@@ -4,7 +4,15 @@ use Rattle.std.specs.Cmp.Lexicographic.{slice_cmp}
 use Rattle.std.specs.Ordering.{nat_cmp, is_lt}
 use Rattle.ice_manifest_reading.specs.declared.entry.Entry.{Entry}
 use Rattle.ice_state_entries.specs.Kept.{no_entry}
+use Rattle.ice_state.specs.declared.kept.segments.FileNumber.{FileNumber}
+use Rattle.ice_state.specs.Outcomes.{by_path}
+use Rattle.ice_state.specs.Segments.{AreKept, Segmented, entries_at}
 use Rattle.ice_state.specs.Shares.{count_at}
+
+-- kept files in the order of their paths
+pub record AreSorted (segments : Segmented) (files : List FileNumber) : Type 0 where
+  pub kept : AreKept segments files
+  pub sorted : by_path (entries_at segments files) ≡ entries_at segments files
 
 -- no path is that of entries of both
 abbrev pub ShareNoPath : List Entry → List Entry → Type 0

@@ -1,14 +1,19 @@
 //! Whether files share no path with others.
 
 ghost use Rattle.std.specs.Prelude.{◌≡◌, ◌<◌, ◌≤◌, IfSome, IsTrue, length};
-ghost use Rattle.ice_state.specs.Apart.{IsBehind, IsGap, IsInFront, IsRun, path_at, ShareNoPath};
+ghost use Rattle.std.specs.Thread.{IsSync};
+ghost use Rattle.ice_state.specs.Apart.{AreSorted, IsBehind, IsGap, IsInFront, IsRun, path_at, ShareNoPath};
 ghost use Rattle.ice_state.specs.Outcomes.{by_path};
 ghost use Rattle.ice_state.specs.Segments.{AreKept, entries_at};
 
 use crate::kept::segments::{FileNumber, Segments};
+use std::thread::{Threads, join};
 
-/// Whether files in order share no path with others. Found from the fewer of them by steps that double, since their
-/// paths often stand together between two of the others.
+/// How many files are worth a thread, at the least.
+const WORTH: usize = 2048;
+
+/// Whether files in order share no path with others. Found from the fewer of them, since their paths often stand
+/// together between two of the others.
 pub fn are_apart(entries: &Segments, files: &[FileNumber], others: &[FileNumber]) -> bool
     requires files { AreKept entries.now files.now }
     requires others { AreKept entries.now others.now }
@@ -16,14 +21,80 @@ pub fn are_apart(entries: &Segments, files: &[FileNumber], others: &[FileNumber]
     requires sorted_others { by_path (entries_at entries.now others.now) ≡ entries_at entries.now others.now }
     ensures { IsTrue result → ShareNoPath (entries_at entries.now files.now) (entries_at entries.now others.now) }
 {
+    let stride = stride_of(files.len(), others.len());
     if files.len() < others.len() {
-        return are_in_gaps(entries, others, files);
+        return are_in_gaps(entries, others, files, stride);
     }
-    are_in_gaps(entries, files, others)
+    are_in_gaps(entries, files, others, stride)
 }
 
-/// Whether none of some paths is one of those of the files, gap by gap.
-fn are_in_gaps(entries: &Segments, files: &[FileNumber], some: &[FileNumber]) -> bool
+/// Whether files in order share no path with others, found by so many workers from the fewer of them, since their paths
+/// often stand together between two of the others.
+pub fn are_apart_by_workers<R: Threads + Sync>(
+    rt: &R,
+    entries: &Segments,
+    files: &[FileNumber],
+    others: &[FileNumber],
+    workers: usize,
+) -> bool
+    requires files { AreKept entries.now files.now }
+    requires others { AreKept entries.now others.now }
+    requires sorted { by_path (entries_at entries.now files.now) ≡ entries_at entries.now files.now }
+    requires sorted_others { by_path (entries_at entries.now others.now) ≡ entries_at entries.now others.now }
+    ensures { IsTrue result → ShareNoPath (entries_at entries.now files.now) (entries_at entries.now others.now) }
+{
+    let stride = stride_of(files.len(), others.len());
+    if files.len() < others.len() {
+        return are_in_gaps_by_workers(rt, entries, others, files, stride, workers);
+    }
+    are_in_gaps_by_workers(rt, entries, files, others, stride, workers)
+}
+
+/// How many of the more files there are from one of the fewer to the next, where these are spread evenly.
+fn stride_of(files: usize, others: usize) -> usize {
+    files.max(others) / files.min(others).max(1)
+}
+
+/// The same as `are_in_gaps` by so many workers, if there are enough paths for each: by halves of the workers, each
+/// half with its share of the paths, which are neighbours, in a thread of its own where one can be started.
+fn are_in_gaps_by_workers<R: Threads + Sync>(
+    rt: &R,
+    entries: &Segments,
+    files: &[FileNumber],
+    some: &[FileNumber],
+    stride: usize,
+    workers: usize,
+) -> bool
+    requires files { AreSorted entries.now files.now }
+    requires some { AreSorted entries.now some.now }
+    ensures { IsTrue result → ShareNoPath (entries_at entries.now files.now) (entries_at entries.now some.now) }
+{
+    let workers = workers.min(some.len() / WORTH);
+    if workers < 2 {
+        return are_in_gaps(entries, files, some, stride);
+    }
+    let half = workers / 2;
+    let other_half = workers - half;
+    let (front, back) = some.split_at(some.len() / workers * half);
+    let (first, second) = join(
+        rt,
+        || -> bool
+            requires { IsSync R.row × AreSorted entries.now files.now × AreSorted entries.now front.now }
+            ensures { IsTrue result → ShareNoPath (entries_at entries.entry.now files.entry.now)
+                (entries_at entries.entry.now front.entry.now) }
+        { are_in_gaps_by_workers(rt, entries, files, front, stride, half) },
+        || -> bool
+            requires { IsSync R.row × AreSorted entries.now files.now × AreSorted entries.now back.now }
+            ensures { IsTrue result → ShareNoPath (entries_at entries.entry.now files.entry.now)
+                (entries_at entries.entry.now back.entry.now) }
+        { are_in_gaps_by_workers(rt, entries, files, back, stride, other_half) },
+    );
+    first && second
+}
+
+/// Whether none of some paths is one of those of the files, gap by gap, each of which is looked for about so far behind
+/// the one before.
+fn are_in_gaps(entries: &Segments, files: &[FileNumber], some: &[FileNumber], stride: usize) -> bool
     requires files { AreKept entries.now files.now }
     requires some { AreKept entries.now some.now }
     requires sorted { by_path (entries_at entries.now files.now) ≡ entries_at entries.now files.now }
@@ -33,7 +104,7 @@ fn are_in_gaps(entries: &Segments, files: &[FileNumber], some: &[FileNumber]) ->
     let mut first = 0;
     let mut near = 0;
     'some: while first < some.len() {
-        let Some(gap) = gap_of(entries, files, entries.path(some[first]), near) else {
+        let Some(gap) = gap_of(entries, files, entries.path(some[first]), near, stride) else {
             return false;
         };
         first = end_in_gap(entries, files, some, first, gap);
@@ -43,8 +114,14 @@ fn are_in_gaps(entries: &Segments, files: &[FileNumber], some: &[FileNumber]) ->
 }
 
 /// The place of the first file behind a path that none has: the one where it is looked for first, or else one that is
-/// found by steps that double.
-fn gap_of(entries: &Segments, files: &[FileNumber], path: &[u8], near: usize) -> Option<usize>
+/// found about so far behind it.
+fn gap_of(
+    entries: &Segments,
+    files: &[FileNumber],
+    path: &[u8],
+    near: usize,
+    stride: usize,
+) -> Option<usize>
     requires files { AreKept entries.now files.now }
     requires near { near ≤ length files.now }
     ensures { IfSome result (IsGap (entries_at entries.now files.now) path.now) }
@@ -52,9 +129,7 @@ fn gap_of(entries: &Segments, files: &[FileNumber], path: &[u8], near: usize) ->
     if is_gap(entries, files, path, near) {
         return Some(near);
     }
-    let end = end_of_steps(entries, files, path, near);
-    // Half of the way was looked at last.
-    let place = bisected(entries, files, path, near + (end - near) / 2, end);
+    let place = place_of(entries, files, path, near, stride);
     if is_gap(entries, files, path, place) {
         return Some(place);
     }
@@ -120,18 +195,27 @@ fn is_in_front(entries: &Segments, files: &[FileNumber], path: &[u8], place: usi
     path.cmp(entries.path(files[place])).is_lt()
 }
 
-/// A place behind the one where a path is to be found, by steps that double.
-fn end_of_steps(entries: &Segments, files: &[FileNumber], path: &[u8], near: usize) -> usize
+/// The place from one on where a path is to be found: by a first step of so many files, and further ones that end twice
+/// as far.
+fn place_of(
+    entries: &Segments,
+    files: &[FileNumber],
+    path: &[u8],
+    near: usize,
+    stride: usize,
+) -> usize
     requires files { AreKept entries.now files.now }
     requires near { near ≤ length files.now }
-    ensures { (near ≤ result) × (result ≤ length files.now) }
+    ensures { result ≤ length files.now }
 {
     let most = files.len() - near;
-    let mut step = 1;
+    let mut passed = 0;
+    let mut step = stride.max(1);
     'steps: while step < most && entries.path(files[near + step]).cmp(path).is_lt() {
+        passed = step;
         step = step.saturating_mul(2);
     }
-    near + step.min(most)
+    bisected(entries, files, path, near + passed, near + step.min(most))
 }
 
 /// The place from one to another where a path is to be found.

@@ -1,8 +1,12 @@
 use Rattle.std.proofs.Common.{◌≤◌, ◌-◌}
-use Rattle.ice_state.proofs.finish.apart.end_of_steps.Given as goal
+use Rattle.ice_state.proofs.finish.apart.place_of.Given as goal
 
 abbrev pub invariant-steps : goal.invariant-steps
-invariant-steps l = 1 ≤ l.step
+invariant-steps l = record {
+  some : 1 ≤ l.step;
+  behind : l.passed ≤ l.step;
+  within : l.passed ≤ l.most;
+}
 
 abbrev pub decreases-steps : goal.decreases-steps
 decreases-steps l = l.most - l.step
