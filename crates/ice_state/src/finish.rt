@@ -142,10 +142,7 @@ fn put_in_order<H: Helpers>(
 {
     let rise = sort_by_path(helpers, alloc, entries, &mut files.data_files, rise)?;
     let deletes_rise = sort_by_path(helpers, alloc, entries, &mut files.delete_files, false)?;
-    if rise
-        && deletes_rise
-        && helpers.are_apart(entries, &files.data_files, &files.delete_files)
-    {
+    if rise && deletes_rise && helpers.are_apart(entries, &files.data_files, &files.delete_files) {
         return Ok(());
     }
     // As far as that tells, two share a path. All of them, sorted together, say which.

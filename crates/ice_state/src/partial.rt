@@ -435,4 +435,5 @@ impl Partial {
             entries: self.entries,
             numbered,
         })
-    }}
+    }
+}

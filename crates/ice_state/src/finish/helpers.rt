@@ -8,7 +8,7 @@ ghost use Rattle.ice_state.specs.Keys.{key_less};
 ghost use Rattle.ice_state.specs.Outcomes.{by_path};
 ghost use Rattle.ice_state.specs.Segments.{AreKept, entries_at};
 
-use crate::finish::apart::are_apart;
+use crate::finish::apart::{are_apart, are_apart_by_workers};
 use crate::kept::halves::sort_halves;
 use crate::kept::segments::{FileNumber, Segments};
 use crate::kept::sorting::Placed;
@@ -68,6 +68,6 @@ impl<'r, R: Threads + Sync> Helpers for Workers<'r, R> {
     }
 
     fn are_apart(&self, entries: &Segments, files: &[FileNumber], others: &[FileNumber]) -> bool {
-        are_apart(entries, files, others)
+        are_apart_by_workers(self.rt, entries, files, others, self.count)
     }
 }

@@ -1,6 +1,5 @@
-use Rattle.std.proofs.Common.{◌≡◌, ◌∙◌, ap, filter, subst, sym, List}
+use Rattle.std.proofs.Common.{◌∙◌, ap, filter, subst}
 use Rattle.ice_value.specs.declared.file_content.FileContent.TheVariants.{Data}
-use Rattle.ice_manifest_reading.specs.declared.entry.Entry.{Entry}
 use Rattle.ice_state.specs.Orders.{runs_at}
 use Rattle.ice_state.specs.Pruning.{holds}
 use Rattle.ice_state.specs.Rising.{HaveRisingPaths}
