@@ -8,6 +8,7 @@ pub mod Ends
 pub mod Times
 pub mod Places
 pub mod Counted
+pub mod LineTexts
 pub mod Kept
 pub mod AnyKept
 pub mod Telling

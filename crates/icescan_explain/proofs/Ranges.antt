@@ -4,7 +4,7 @@ use Rattle.std.proofs.Common.{List, [], ◌∷◌, ◌++◌, length, drop, filte
 use Rattle.std.proofs.Common.{subst, arith, add-one, append-nil, get_or, length-drop, take}
 use Rattle.std.specs.Prelude.{Result, Ok, Err, slice_get}
 use mir.Val.{bool_byte}
-use Rattle.std.proofs.Math.Seq.{drop-append_seam, drop-nil, take-suc}
+use Rattle.std.proofs.Math.Seq.{drop-append_seam, drop-nil, take-append_seam, take-suc}
 use Rattle.std.proofs.lemmas.Bool.{cases_lt}
 use Rattle.std.proofs.lemmas.List.{append_assoc, drop-drop, length-append}
 use Rattle.std.proofs.lemmas.List.Elements.{filter-append}
@@ -105,6 +105,17 @@ few_wanted tests (row ∷ rows) = go (is_wanted tests row) (few_wanted tests row
       → length (cond b (row ∷ wanted_of tests rows) (wanted_of tests rows)) ≤ length (row ∷ rows)
   go true few = omega (arith, few)
   go false few = omega (arith, few)
+
+-- those of two parts
+pub count_parts : (tests : FilterTests) (xs ys : List Row) → count_of tests (xs ++ ys)
+    ≡ count_of tests xs + count_of tests ys
+count_parts tests xs ys =
+    ap length (filter-append (is_wanted tests) xs ys) ∙ length-append (wanted_of tests xs) (wanted_of tests ys)
+
+-- the first of two parts
+pub front_is : (rows xs ys : List Row) (n : ℕ) → rows ≡ xs ++ ys → length xs ≡ n → take n rows ≡ xs
+front_is rows xs ys n both long =
+    rw (both, ← long) (take-append_seam xs ys)
 
 one_row : (b : Bool) (row : Row) → length (cond b (row ∷ []) []) ≡ bool_byte b
 one_row true row = refl
@@ -346,7 +357,7 @@ module _ (told : Option World) (f : List ℕ → Type 0) (gives : Giving) (tests
   wanted_both = ap (wanted_of tests) whole ∙ filter-append (is_wanted tests) xs ys
 
   count_both : count_of tests rows ≡ count_of tests xs + count_of tests ys
-  count_both = ap length wanted_both ∙ length-append (wanted_of tests xs) (wanted_of tests ys)
+  count_both = ap (count_of tests) whole ∙ count_parts tests xs ys
 
   abbrev Ends : World → List Row → RunFault → Type 0
   Ends world wanted e = MayEnd (all_present world wanted) (EndsAt world f (paths_of wanted)) ⊥ e

@@ -1,6 +1,6 @@
 -- How much of a snapshot a filter leaves out.
-use Rattle.std.specs.Prelude.{ℕ, ℤ, pos, ◌+ℤ◌, Bool, true, false, not, ◌&&◌, List, [], ◌∷◌, filter, length}
-use Rattle.std.specs.Prelude.{if◌then◌else◌}
+use Rattle.std.specs.Prelude.{ℕ, ℤ, pos, ◌+◌, ◌^◌, ◌+ℤ◌, ◌-ℤ◌, ◌≤ℤ◌, Bool, true, false, not, ◌&&◌, List, [], ◌∷◌}
+use Rattle.std.specs.Prelude.{filter, if◌then◌else◌, length}
 use Rattle.icescan_explain.specs.Fates.{is_kept}
 use Rattle.icescan_explain.specs.declared.verdict.Fate.{Fate}
 use Rattle.icescan_explain.specs.declared.verdict.Fate.TheVariants as fate
@@ -45,3 +45,18 @@ counts_of subject vs = record {
   by_bounds = how_many subject Bounds vs;
   bytes = bytes_left subject vs;
 }
+
+-- ---- one verdict after the other
+
+-- the counts so far, and a verdict
+abbrev pub counts_with : Subject → Verdict → Counts → Counts
+counts_with subject v c = record {
+  kept = c.kept + (if is_counted subject Kept v then 1 else 0);
+  by_partition = c.by_partition + (if is_counted subject Partition v then 1 else 0);
+  by_bounds = c.by_bounds + (if is_counted subject Bounds v then 1 else 0);
+  bytes = c.bytes +ℤ bytes_in subject v;
+}
+
+-- a sum of 128 bits that may still grow or shrink by any of 64
+abbrev pub IsFarFromLimits : ℤ → Type 0
+IsFarFromLimits sum = ((pos (2 ^ 63) -ℤ pos (2 ^ 127)) ≤ℤ sum) × (sum ≤ℤ (pos (2 ^ 127) -ℤ pos (2 ^ 63)))

@@ -8,7 +8,7 @@ use Rattle.icescan_explain.specs.AnyFiles.{IsAnExplanation}
 use Rattle.icescan_explain.specs.Applying.{applied}
 use Rattle.icescan_explain.specs.Counting.{counts_of}
 use Rattle.icescan_explain.specs.Fates.{is_kept}
-use Rattle.icescan_explain.specs.Texts.{all_of, explanation_text, subject_name}
+use Rattle.icescan_explain.specs.Texts.{all_of, explanation_text, subject_name, totals_text, verdict_text}
 use Rattle.icescan_explain.specs.declared.counts.Counts.{Counts}
 use Rattle.icescan_explain.specs.declared.manifests.Explanation.{Explanation}
 use Rattle.icescan_explain.specs.declared.verdict.Fate.{Fate}
@@ -68,6 +68,16 @@ totals_objects vs = totals_object vs Manifest ++ (totals_object vs DataFile ++ t
 -- the verdicts, and then the counts
 unfoldable pub explanation_objects : Explanation → List ℕ
 explanation_objects x = flat_map (verdict_object x.plan) x.verdicts ++ totals_objects x.verdicts
+
+-- the line of a verdict in a form
+abbrev pub verdict_told : Format → List OwnedLine → Verdict → List ℕ
+verdict_told format.Text plan v = verdict_text plan v
+verdict_told format.Json plan v = verdict_object plan v
+
+-- the last lines in a form
+abbrev pub totals_told : Format → List Verdict → List ℕ
+totals_told format.Text vs = totals_text vs
+totals_told format.Json vs = totals_objects vs
 
 -- an explanation in a form
 abbrev pub explanation_told : Format → Explanation → List ℕ

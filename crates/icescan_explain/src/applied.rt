@@ -50,7 +50,7 @@ impl Applied {
         let plan = lines.placed_files();
         let times = times_by_place(alloc, &plan)?;
         let mut applied = Applied {
-            counts: HashMap::new(alloc),
+            counts: HashMap::with_capacity(alloc, plan.count_deletes())?,
         };
         'deletes: for i in 0..plan.count_deletes() {
             applied.add(alloc, plan.delete(i).path(), times[i])?;

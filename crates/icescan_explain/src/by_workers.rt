@@ -1,6 +1,6 @@
 //! Telling of the rows of a manifest list, by one worker or by many at once.
 
-ghost use Rattle.std.specs.Prelude.{◌≡◌, ◌+◌, ◌++◌, ◌<◌, ◌≤◌, ◌^◌, IfOk, filter, length};
+ghost use Rattle.std.specs.Prelude.{◌≡◌, ◌+◌, ◌++◌, ◌<◌, ◌≤◌, ◌^◌, IfOk, filter, length, take};
 ghost use Rattle.std.specs.Thread.{IsSync};
 ghost use Rattle.ice_state.specs.Joins.{join as both};
 ghost use Rattle.icescan_explain.specs.RowsTold.{IsScanFor, is_wanted};
@@ -69,18 +69,72 @@ fn count_wanted(tests: &FilterTests, rows: &[Row]) -> usize
     count
 }
 
-/// How many rows there are before so many that are wanted are among them.
-fn count_before(tests: &FilterTests, rows: &[Row], wanted: usize) -> usize
-    ensures { result ≤ length rows.now }
+/// How many rows there are before so many that are wanted are among them, or in all, and how many of these are wanted.
+fn front_with(tests: &FilterTests, rows: &[Row], wanted: usize) -> (usize, usize)
+    ensures within { result.0 ≤ length rows.now }
+    ensures counted { result.1 ≡ length (filter (is_wanted tests.now) (take result.0 rows.now)) }
 {
-    let mut left = wanted;
+    let mut count = 0;
     'rows: for i in 0..rows.len() {
-        if left == 0 {
-            return i;
+        if count == wanted {
+            return (i, count);
         }
-        left -= is_wanted(tests, &rows[i]) as usize;
+        count += is_wanted(tests, &rows[i]) as usize;
     }
-    rows.len()
+    (rows.len(), count)
+}
+
+/// The same as `tell_by_workers` where so many of the rows are wanted: they are counted once.
+fn tell_halves<R: Threads + Sync, F: Files + Sync>(
+    rt: &R,
+    alloc: Global,
+    files: &F,
+    tests: &FilterTests,
+    scan: &Scan,
+    first: usize,
+    rows: &[Row],
+    wanted: usize,
+    workers: usize,
+) -> Result<ToldRows, RunFault>
+    requires by { IsScanFor tests.now scan.now }
+    requires rows { AreWantedFrom tests.now scan.now first rows.now }
+    requires wanted { wanted ≡ length (filter (is_wanted tests.now) rows.now) }
+    requires few { first + length rows.now < 2 ^ 64 }
+    ensures { TellsRows (F.world files.now) (F.may_fail files.now) (F.gives files.now) tests.now scan.now first rows.now
+        result }
+{
+    if workers < 2 || rows.len() < 2 {
+        return tell_rows(alloc, files, tests, scan, first, rows);
+    }
+    let half = workers / 2;
+    let other_half = workers - half;
+    let each = wanted.div_ceil(workers);
+    let (place, in_front) = front_with(tests, rows, each.saturating_mul(half));
+    let (front, back) = rows.split_at(place);
+    let next = first + in_front;
+    let behind = wanted - in_front;
+    let (told, others) = join(
+        rt,
+        || -> Result<ToldRows, RunFault>
+            requires { IsSync R.row × IsSync F.row × IsScanFor tests.now scan.now
+                × AreWantedFrom tests.now scan.now first front.now × (first + length front.now < 2 ^ 64)
+                × (in_front ≡ length (filter (is_wanted tests.now) front.now)) }
+            ensures { TellsRows (F.world files.entry.now) (F.may_fail files.entry.now) (F.gives files.entry.now)
+                tests.entry.now scan.entry.now first front.entry.now result }
+        { tell_halves(rt, alloc, files, tests, scan, first, front, in_front, half) },
+        || -> Result<ToldRows, RunFault>
+            requires { IsSync R.row × IsSync F.row × IsScanFor tests.now scan.now
+                × AreWantedFrom tests.now scan.now next back.now × (next + length back.now < 2 ^ 64)
+                × (behind ≡ length (filter (is_wanted tests.now) back.now)) }
+            ensures { TellsRows (F.world files.entry.now) (F.may_fail files.entry.now) (F.gives files.entry.now)
+                tests.entry.now scan.entry.now next back.entry.now result }
+        {
+            tell_halves(
+                rt, alloc, files, tests, scan, next, back, behind, other_half,
+            )
+        },
+    );
+    Ok(told?.joined(others?)?)
 }
 
 /// The same as `tell_rows` by so many workers, no more than there are rows: by halves of the workers, each half with
@@ -102,30 +156,6 @@ pub fn tell_by_workers<R: Threads + Sync, F: Files + Sync>(
     ensures { TellsRows (F.world files.now) (F.may_fail files.now) (F.gives files.now) tests.now scan.now first rows.now
         result }
 {
-    if workers < 2 || rows.len() < 2 {
-        return tell_rows(alloc, files, tests, scan, first, rows);
-    }
-    let half = workers / 2;
-    let other_half = workers - half;
-    let each = count_wanted(tests, rows).div_ceil(workers);
-    let place = count_before(tests, rows, each.saturating_mul(half));
-    let (front, back) = rows.split_at(place);
-    let wanted = count_wanted(tests, front);
-    let next = first + wanted;
-    let (told, others) = join(
-        rt,
-        || -> Result<ToldRows, RunFault>
-            requires { IsSync R.row × IsSync F.row × IsScanFor tests.now scan.now
-                × AreWantedFrom tests.now scan.now first front.now × (first + length front.now < 2 ^ 64) }
-            ensures { TellsRows (F.world files.entry.now) (F.may_fail files.entry.now) (F.gives files.entry.now)
-                tests.entry.now scan.entry.now first front.entry.now result }
-        { tell_by_workers(rt, alloc, files, tests, scan, first, front, half) },
-        || -> Result<ToldRows, RunFault>
-            requires { IsSync R.row × IsSync F.row × IsScanFor tests.now scan.now
-                × AreWantedFrom tests.now scan.now next back.now × (next + length back.now < 2 ^ 64) }
-            ensures { TellsRows (F.world files.entry.now) (F.may_fail files.entry.now) (F.gives files.entry.now)
-                tests.entry.now scan.entry.now next back.entry.now result }
-        { tell_by_workers(rt, alloc, files, tests, scan, next, back, other_half) },
-    );
-    Ok(told?.joined(others?)?)
+    let wanted = count_wanted(tests, rows);
+    tell_halves(rt, alloc, files, tests, scan, first, rows, wanted, workers)
 }

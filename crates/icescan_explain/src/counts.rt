@@ -1,7 +1,8 @@
 //! How much a filter leaves out.
 
-ghost use Rattle.std.specs.Prelude.{◌≡◌, ◌+◌};
-ghost use Rattle.icescan_explain.specs.Counting.{bytes_in, counts_of, has_cause, is_counted};
+ghost use Rattle.std.specs.Prelude.{◌≡◌, ◌+◌, ◌<◌, ◌^◌, pos, ◌+ℤ◌, ◌-ℤ◌, ◌≤ℤ◌};
+ghost use Rattle.icescan_explain.specs.Counting.{IsFarFromLimits, bytes_in, counts_of, counts_with, has_cause};
+ghost use Rattle.icescan_explain.specs.Counting.{is_counted};
 
 use crate::verdict::{Fate, Subject, Verdict};
 
@@ -32,6 +33,35 @@ pub struct Counts {
 }
 
 impl Counts {
+    /// Nothing is counted yet.
+    fn none() -> Counts
+        ensures { result ≡ record { kept = 0; by_partition = 0; by_bounds = 0; bytes = pos 0 } }
+    {
+        Counts {
+            kept: 0,
+            by_partition: 0,
+            by_bounds: 0,
+            bytes: 0,
+        }
+    }
+
+    /// These and what a verdict is about, where it is of this subject.
+    fn with_verdict(self, verdict: &Verdict, subject: Subject) -> Counts
+        requires numbers { (self.kept + 1 < 2 ^ 64) × (self.by_partition + 1 < 2 ^ 64) × (self.by_bounds + 1 < 2 ^ 64) }
+        requires bytes { IsFarFromLimits self.bytes }
+        ensures same { result ≡ counts_with subject verdict.now self }
+        ensures least { (self.bytes -ℤ pos (2 ^ 63)) ≤ℤ result.bytes }
+        ensures most { result.bytes ≤ℤ (self.bytes +ℤ pos (2 ^ 63)) }
+    {
+        Counts {
+            kept: self.kept + is_counted(verdict, subject, Cause::Kept) as usize,
+            by_partition: self.by_partition
+                + is_counted(verdict, subject, Cause::Partition) as usize,
+            by_bounds: self.by_bounds + is_counted(verdict, subject, Cause::Bounds) as usize,
+            bytes: self.bytes + bytes_in(verdict, subject) as i128,
+        }
+    }
+
     /// How many there are in all.
     pub fn all(&self) -> u128
         ensures { result ≡ self.now.kept + (self.now.by_partition + self.now.by_bounds) }
@@ -67,24 +97,34 @@ fn bytes_in(verdict: &Verdict, subject: Subject) -> i64
     }
 }
 
-/// What is counted of this subject.
-pub fn counts_of(verdicts: &[Verdict], subject: Subject) -> Counts
-    ensures { result ≡ counts_of subject verdicts.now }
+/// What is counted of each subject.
+#[derive(Clone, Copy, Debug)]
+pub struct Totals {
+    /// What is counted of manifests.
+    pub manifests: Counts,
+    /// What is counted of data files.
+    pub files: Counts,
+    /// What is counted of delete files.
+    pub deletes: Counts,
+}
+
+/// What is counted of each subject, in one pass over the verdicts.
+pub fn totals_of(verdicts: &[Verdict]) -> Totals
+    ensures manifests { result.manifests ≡ counts_of Subject.Manifest verdicts.now }
+    ensures files { result.files ≡ counts_of Subject.Data verdicts.now }
+    ensures deletes { result.deletes ≡ counts_of Subject.Deletes verdicts.now }
 {
-    let mut kept: usize = 0;
-    let mut by_partition: usize = 0;
-    let mut by_bounds: usize = 0;
-    let mut bytes: i128 = 0;
+    let mut manifests = Counts::none();
+    let mut files = Counts::none();
+    let mut deletes = Counts::none();
     'verdicts: for verdict in verdicts {
-        kept += is_counted(verdict, subject, Cause::Kept) as usize;
-        by_partition += is_counted(verdict, subject, Cause::Partition) as usize;
-        by_bounds += is_counted(verdict, subject, Cause::Bounds) as usize;
-        bytes += bytes_in(verdict, subject) as i128;
+        manifests = manifests.with_verdict(verdict, Subject::Manifest);
+        files = files.with_verdict(verdict, Subject::Data);
+        deletes = deletes.with_verdict(verdict, Subject::Deletes);
     }
-    Counts {
-        kept,
-        by_partition,
-        by_bounds,
-        bytes,
+    Totals {
+        manifests,
+        files,
+        deletes,
     }
 }

@@ -1,25 +1,21 @@
 //! An explanation as lines of JSON, an object each.
 
-ghost use Rattle.std.specs.Prelude.{◌≡◌, List};
-ghost use Rattle.std.specs.List.{flat_map};
+ghost use Rattle.std.specs.Prelude.{◌≡◌, ◌++◌, IfOk, List, OnOk};
 ghost use Rattle.icescan_explain.specs.Applying.{CountsOf};
-ghost use Rattle.icescan_explain.specs.JsonLines.{applies_json, by_json, explanation_objects, name_json};
-ghost use Rattle.icescan_explain.specs.JsonLines.{totals_json, totals_object, totals_objects, verdict_object};
+ghost use Rattle.icescan_explain.specs.JsonLines.{applies_json, by_json, name_json, totals_json};
+ghost use Rattle.icescan_explain.specs.JsonLines.{totals_objects, verdict_object};
 ghost use Rattle.icescan_forms.specs.Objects.{object_line, text_if, value_json};
 ghost use Rattle.icescan_print.specs.Written.{Sent};
-ghost use Rattle.icescan_text.specs.Writes.{WroteOrRefused};
 ghost use Rattle.ice_state.specs.Lines.{OwnedLine};
 
 use crate::applied::Applied;
-use crate::counts::{Counts, counts_of};
-use crate::manifests::Explanation;
+use crate::counts::{Counts, totals_of};
 use crate::verdict::{Fate, Subject, Verdict};
 use contract_words::Text;
-use icescan_forms::{Value, put_object};
+use icescan_forms::{ObjectLines, Value, put_object};
 use icescan_print::{Page, Sink, SinkFault};
-use icescan_text::RunFault;
 use shared_value::Shared;
-use std::alloc::Global;
+use std::alloc::{AllocError, Global};
 
 /// To how many data files a delete file applies that is kept.
 fn applies_value<'a>(applied: &Applied, verdict: &Verdict) -> Value<'a>
@@ -63,7 +59,7 @@ fn name_value(fate: &Fate) -> Value<'_>
 
 /// Sends a verdict.
 #[tactic(auto, unfolding(crate::specs::JsonLines::verdict_object))]
-fn put_verdict<S: Sink>(
+pub fn put_verdict<S: Sink>(
     page: &mut Page,
     sink: &mut S,
     applied: &Applied,
@@ -83,34 +79,11 @@ fn put_verdict<S: Sink>(
     put_object(page, sink, &members)
 }
 
-/// Sends verdicts.
-fn put_verdicts<S: Sink>(
-    page: &mut Page,
-    sink: &mut S,
-    applied: &Applied,
-    verdicts: &[Verdict],
-) -> Result<(), SinkFault>
-    ensures { (plan : List OwnedLine) → CountsOf applied.now plan →
-        Sent S.taken S.may_fail sink.old page.old result sink.new page.new
-        (flat_map (verdict_object plan) verdicts.now) }
+/// Puts these counts of a subject last.
+fn push_counts(lines: &mut ObjectLines, counts: &Counts, subject: Subject) -> Result<(), AllocError>
+    ensures { OnOk result (lines.new ≡ lines.old ++ object_line (totals_json subject counts.now)) }
 {
-    'verdicts: for verdict in verdicts {
-        put_verdict(page, sink, applied, verdict)?;
-    }
-    Ok(())
-}
-
-/// Sends these counts of a subject.
-fn put_counts<S: Sink>(
-    page: &mut Page,
-    sink: &mut S,
-    counts: &Counts,
-    subject: Subject,
-) -> Result<(), SinkFault>
-    ensures { Sent S.taken S.may_fail sink.old page.old result sink.new page.new
-        (object_line (totals_json subject counts.now)) }
-{
-    let members = [
+    lines.push(&[
         ("kind", Value::Text(b"totals")),
         ("of", Value::Text(subject.name())),
         ("all", Value::Count(counts.all())),
@@ -118,63 +91,18 @@ fn put_counts<S: Sink>(
         ("partition", Value::Count(counts.by_partition as u128)),
         ("bounds", Value::Count(counts.by_bounds as u128)),
         ("bytes", Value::Sum(counts.bytes)),
-    ];
-    put_object(page, sink, &members)
+    ])
 }
 
-/// Sends what is counted of a subject.
-#[tactic(auto, unfolding(crate::specs::JsonLines::totals_object))]
-fn put_total<S: Sink>(
-    page: &mut Page,
-    sink: &mut S,
-    verdicts: &[Verdict],
-    subject: Subject,
-) -> Result<(), SinkFault>
-    ensures { Sent S.taken S.may_fail sink.old page.old result sink.new page.new (totals_object verdicts.now subject) }
+/// The last three lines of an explanation.
+#[tactic(auto, unfolding(crate::specs::JsonLines::totals_object, crate::specs::JsonLines::totals_objects))]
+pub fn totals_objects(alloc: Global, verdicts: &[Verdict]) -> Result<Vec<u8>, AllocError>
+    ensures { IfOk result (λ text. text.items ≡ totals_objects verdicts.now) }
 {
-    let counts = counts_of(verdicts, subject);
-    put_counts(page, sink, &counts, subject)
-}
-
-/// Sends what is counted of manifests, data files and delete files.
-#[tactic(auto, unfolding(crate::specs::JsonLines::totals_objects))]
-fn put_totals<S: Sink>(page: &mut Page, sink: &mut S, verdicts: &[Verdict]) -> Result<(), SinkFault>
-    ensures { Sent S.taken S.may_fail sink.old page.old result sink.new page.new (totals_objects verdicts.now) }
-{
-    put_total(page, sink, verdicts, Subject::Manifest)?;
-    put_total(page, sink, verdicts, Subject::Data)?;
-    put_total(page, sink, verdicts, Subject::Deletes)
-}
-
-/// Sends an explanation: its delete files' counts are these.
-#[tactic(auto, unfolding(crate::specs::JsonLines::explanation_objects))]
-fn put_explanation<S: Sink>(
-    page: &mut Page,
-    sink: &mut S,
-    explanation: &Explanation,
-    applied: &Applied,
-) -> Result<(), SinkFault>
-    requires { CountsOf applied.now explanation.now.plan }
-    ensures { Sent S.taken S.may_fail sink.old page.old result sink.new page.new
-        (explanation_objects explanation.now) }
-{
-    let verdicts = explanation.verdicts.as_slice();
-    put_verdicts(page, sink, applied, verdicts)?;
-    put_totals(page, sink, verdicts)
-}
-
-/// Writes an explanation as lines of JSON and nothing else. All memory is taken before the first byte: it refuses when
-/// out of memory, and then nothing was written, or where a write fails, and then a front of the lines was.
-pub fn write_explanation_objects<S: Sink>(
-    alloc: Global,
-    explanation: &Explanation,
-    sink: &mut S,
-) -> Result<(), RunFault>
-    ensures { WroteOrRefused S.taken S.may_fail sink.old result sink.new (explanation_objects explanation.now) }
-{
-    let applied = Applied::of(alloc, &explanation.plan.lines())?;
-    let mut page = Page::new(alloc)?;
-    put_explanation(&mut page, sink, explanation, &applied)?;
-    page.flush(sink)?;
-    Ok(())
+    let totals = totals_of(verdicts);
+    let mut lines = ObjectLines::new(alloc)?;
+    push_counts(&mut lines, &totals.manifests, Subject::Manifest)?;
+    push_counts(&mut lines, &totals.files, Subject::Data)?;
+    push_counts(&mut lines, &totals.deletes, Subject::Deletes)?;
+    lines.into_text()
 }

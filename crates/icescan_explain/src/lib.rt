@@ -18,6 +18,8 @@ mod manifests;
 mod running;
 mod tests;
 mod verdict;
+mod verdict_lines;
+mod writing;
 
 pub use explained::explanations_tell_of_plans;
 pub use files::{FileTests, file_verdict, file_verdicts};

@@ -1,24 +1,20 @@
-//! The text of an explanation.
+//! The lines of text of an explanation.
 
 ghost use Rattle.std.specs.Prelude.{◌≡◌, ◌++◌, List, OnOk, IfOk};
-ghost use Rattle.std.specs.List.{flat_map};
 ghost use Rattle.icescan_explain.specs.Applying.{CountsOf};
-ghost use Rattle.icescan_explain.specs.Texts.{data_left_out, data_totals, delete_totals, explanation_text};
+ghost use Rattle.icescan_explain.specs.Texts.{data_left_out, data_totals, delete_totals};
 ghost use Rattle.icescan_explain.specs.Texts.{fate_text, kept_text};
 ghost use Rattle.icescan_explain.specs.Texts.{left_out_text, manifest_totals, partition_word};
 ghost use Rattle.icescan_explain.specs.Texts.{totals_text, verdict_text};
 ghost use Rattle.icescan_print.specs.Written.{Sent};
-ghost use Rattle.icescan_text.specs.Writes.{WroteOrRefused};
 ghost use Rattle.ice_state.specs.Lines.{OwnedLine};
 
 use crate::applied::Applied;
-use crate::counts::{Counts, counts_of};
-use crate::manifests::Explanation;
+use crate::counts::{Counts, totals_of};
 use crate::verdict::{Fate, Subject, Verdict};
 use contract_words::Text;
 use icescan_forms::push_number;
 use icescan_print::{Page, Sink, SinkFault};
-use icescan_text::RunFault;
 use shared_value::Shared;
 use std::alloc::{AllocError, Global};
 
@@ -85,7 +81,7 @@ fn put_fate<S: Sink>(
 
 /// Sends the line of a verdict.
 #[tactic(auto, unfolding(crate::specs::Texts::verdict_text))]
-fn put_verdict<S: Sink>(
+pub fn put_verdict<S: Sink>(
     page: &mut Page,
     sink: &mut S,
     applied: &Applied,
@@ -142,64 +138,13 @@ fn push_delete_totals(text: &mut Vec<u8>, counts: &Counts) -> Result<(), AllocEr
 
 /// The last three lines of an explanation.
 #[tactic(auto, unfolding(crate::specs::Texts::totals_text))]
-fn totals_of(alloc: Global, verdicts: &[Verdict]) -> Result<Vec<u8>, AllocError>
+pub fn totals_text(alloc: Global, verdicts: &[Verdict]) -> Result<Vec<u8>, AllocError>
     ensures { IfOk result (λ text. text.items ≡ totals_text verdicts.now) }
 {
+    let totals = totals_of(verdicts);
     let mut text = Vec::new(alloc);
-    push_manifest_totals(&mut text, &counts_of(verdicts, Subject::Manifest))?;
-    push_data_totals(&mut text, &counts_of(verdicts, Subject::Data))?;
-    push_delete_totals(&mut text, &counts_of(verdicts, Subject::Deletes))?;
+    push_manifest_totals(&mut text, &totals.manifests)?;
+    push_data_totals(&mut text, &totals.files)?;
+    push_delete_totals(&mut text, &totals.deletes)?;
     Ok(text)
-}
-
-/// Sends the lines of verdicts.
-fn put_verdicts<S: Sink>(
-    page: &mut Page,
-    sink: &mut S,
-    applied: &Applied,
-    verdicts: &[Verdict],
-) -> Result<(), SinkFault>
-    ensures { (plan : List OwnedLine) → CountsOf applied.now plan →
-        Sent S.taken S.may_fail sink.old page.old result sink.new page.new
-        (flat_map (verdict_text plan) verdicts.now) }
-{
-    'verdicts: for verdict in verdicts {
-        put_verdict(page, sink, applied, verdict)?;
-    }
-    Ok(())
-}
-
-/// Sends the text of an explanation: its delete files' counts and its last lines are these.
-#[tactic(auto, unfolding(crate::specs::Texts::explanation_text))]
-fn put_explanation<S: Sink>(
-    page: &mut Page,
-    sink: &mut S,
-    explanation: &Explanation,
-    applied: &Applied,
-    totals: &[u8],
-) -> Result<(), SinkFault>
-    requires counts { CountsOf applied.now explanation.now.plan }
-    requires totals { totals.now ≡ totals_text explanation.now.verdicts }
-    ensures { Sent S.taken S.may_fail sink.old page.old result sink.new page.new (explanation_text explanation.now) }
-{
-    put_verdicts(page, sink, applied, explanation.verdicts.as_slice())?;
-    page.put(sink, totals)
-}
-
-/// Writes the text of an explanation and nothing else. All memory is taken before the first byte: it refuses when out
-/// of memory, and then nothing was written, or where a write fails, and then a front of the text was.
-#[tactic(auto, unfolding(crate::specs::Texts::explanation_text))]
-pub fn write_explanation_lines<S: Sink>(
-    alloc: Global,
-    explanation: &Explanation,
-    sink: &mut S,
-) -> Result<(), RunFault>
-    ensures { WroteOrRefused S.taken S.may_fail sink.old result sink.new (explanation_text explanation.now) }
-{
-    let applied = Applied::of(alloc, &explanation.plan.lines())?;
-    let totals = totals_of(alloc, explanation.verdicts.as_slice())?;
-    let mut page = Page::new(alloc)?;
-    put_explanation(&mut page, sink, explanation, &applied, &totals)?;
-    page.flush(sink)?;
-    Ok(())
 }

@@ -5,17 +5,15 @@ ghost use Rattle.ice_desk.specs.Worlds.{EndsAt, HasAt};
 ghost use Rattle.icescan_explain.specs.AnyFiles.{IsAnExplanation};
 ghost use Rattle.icescan_explain.specs.Explanations.{Explains, explained, explained_at};
 ghost use Rattle.icescan_explain.specs.JsonLines.{WritesAnExplanation, WroteAnExplanationAs, WroteExplanationAs};
-ghost use Rattle.icescan_explain.specs.JsonLines.{WroteExplanationFrontAs, explanation_told};
+ghost use Rattle.icescan_explain.specs.JsonLines.{WroteExplanationFrontAs};
 ghost use Rattle.icescan_requests.specs.Plans.{OnRefusal, reads, reads_at};
 ghost use Rattle.ice_state.specs.Contents.{World};
 ghost use Rattle.icescan_text.specs.Reads.{MayEnd};
-ghost use Rattle.icescan_text.specs.Writes.{WroteOrRefused};
 
 use crate::columns::columns_in;
-use crate::json_lines::write_explanation_objects;
-use crate::lines::write_explanation_lines;
 use crate::manifests::{Explanation, explain_rows, explain_rows_by_workers};
 use crate::tests::FilterTests;
+use crate::writing::{write_explanation, write_explanation_by_workers};
 use ice_desk::Files;
 use icescan_forms::Format;
 use icescan_print::Sink;
@@ -64,22 +62,6 @@ fn explain_table_by_workers<R: Threads + Sync, F: Files + Sync>(
     let specs = selected.specs.as_slice();
     let tests = FilterTests::new(alloc, specs, &selected.filter, &columns)?;
     explain_rows_by_workers(rt, alloc, files, &tests, selected, workers)
-}
-
-/// Writes an explanation in a form and nothing else. All memory is taken before the first byte: it refuses when out of
-/// memory, and then nothing was written, or where a write fails, and then a front of it was.
-fn write_explanation<S: Sink>(
-    alloc: Global,
-    explanation: &Explanation,
-    format: Format,
-    sink: &mut S,
-) -> Result<(), RunFault>
-    ensures { WroteOrRefused S.taken S.may_fail sink.old result sink.new (explanation_told format explanation.now) }
-{
-    match format {
-        Format::Text => write_explanation_lines(alloc, explanation, sink),
-        Format::Json => write_explanation_objects(alloc, explanation, sink),
-    }
 }
 
 /// Explains the plan that a request asks for, of the table whose metadata these are the bytes of: writes a line for
@@ -148,7 +130,7 @@ fn run_explain_by<R: Threads + Sync, F: Files + Sync, W: Sink>(
         (W.taken output.old) (W.taken output.new) }
 {
     let explanation = explain_table_by_workers(rt, alloc, files, metadata, request, workers)?;
-    write_explanation(alloc, &explanation, format, output)?;
+    write_explanation_by_workers(rt, alloc, &explanation, workers, format, output)?;
     Ok(())
 }
 

@@ -1,6 +1,6 @@
 use Rattle.std.proofs.Common.{rules}
 use Rattle.icescan_print.proofs.Sends.{wrote_all_sent}
-use Rattle.icescan_explain.proofs.json_lines.write_explanation_objects.Goals as goal
+use Rattle.icescan_explain.proofs.writing.write_explanation.Goals as goal
 
 pub returns-in_err-flush : goal.returns-in_err-flush
 returns-in_err-flush g c = record {

@@ -1,13 +1,15 @@
-use Rattle.std.proofs.Common.{◌≡◌, ◌+◌, ◌<◌, ◌^◌, ◌++◌, ◌∙◌, ap, arith, length, rules, subst, sym}
+use Rattle.std.proofs.Common.{◌≡◌, ◌+◌, ◌-◌, ◌<◌, ◌^◌, ◌++◌, ◌∙◌, ap, arith, length, rules, subst, sym}
 use Rattle.std.proofs.lemmas.List.{length-append}
 use Rattle.std.proofs.lemmas.Result.{err_from_is_err_and}
 use Rattle.icescan_explain.specs.ToldRanges.{AreWantedFrom, count_of}
-use Rattle.icescan_explain.proofs.Ranges.{behind_wanted, few_wanted, front_wanted, range_within, refused_behind, refused_first, told_both}
-use Rattle.icescan_explain.proofs.by_workers.+fn-tell_by_workers-join+arg2+fn-tell_by_workers-join+arg3+tell_by_workers.Goals as goal
+use Rattle.icescan_explain.proofs.Ranges.{behind_wanted, count_parts, few_wanted, front_is, front_wanted, range_within, refused_behind, refused_first, told_both}
+use Rattle.icescan_explain.proofs.by_workers.+fn-tell_halves-join+arg2+fn-tell_halves-join+arg3+tell_halves.Goals as goal
 
 pub overflow_add-next : goal.overflow_add-next
 overflow_add-next g t c =
-    let counted = c.count_wanted-wanted.ensures in
+    let counted = c.front_with-place.ensures.counted ∙ ap (count_of c.args.tests.now)
+    (front_is c.args.rows.now c.split_at.result.0.now c.split_at.result.1.now c.front_with-place.result.0
+    c.split_at.ensures.by_index.0 c.split_at.ensures.front_len) in
     let few = few_wanted c.args.tests.now c.split_at.result.0.now in
     let long = c.split_at.ensures.front_len in
     omega (arith, counted, few, long, c.requires.few)
@@ -21,14 +23,19 @@ join-told-requires-after_bounds g t c κs within =
     let back = c.split_at.result.1.now in
     let whole : AreWantedFrom tests scan first (front ++ back) =
     subst (AreWantedFrom tests scan first) c.split_at.ensures.by_index.0 c.requires.rows in
-    let counted : c.count_wanted-wanted.result ≡ count_of tests front = c.count_wanted-wanted.ensures in
+    let counted : c.front_with-place.result.1 ≡ count_of tests front = c.front_with-place.ensures.counted ∙ ap (count_of tests)
+    (front_is c.args.rows.now front back c.front_with-place.result.0 c.split_at.ensures.by_index.0
+    c.split_at.ensures.front_len) in
+    let all = ap (count_of tests) c.split_at.ensures.by_index.0 ∙ count_parts tests front back in
+    let rest : c.args.wanted - c.front_with-place.result.1 ≡ count_of tests back =
+    omega (arith, c.requires.wanted, all, counted) in
     let before : AreWantedFrom tests scan first front = front_wanted tests scan first front back whole in
-    let behind : AreWantedFrom tests scan (first + c.count_wanted-wanted.result) back =
+    let behind : AreWantedFrom tests scan (first + c.front_with-place.result.1) back =
     subst (λ n. AreWantedFrom tests scan (first + n) back) (sym counted)
     (behind_wanted tests scan first front back whole) in
     let long = ap length c.split_at.ensures.by_index.0 ∙ length-append front back in
     let few : first + length front < 2 ^ 64 = omega (arith, long, c.requires.few) in
-    let few_behind : (first + c.count_wanted-wanted.result) + length back < 2 ^ 64 =
+    let few_behind : (first + c.front_with-place.result.1) + length back < 2 ^ 64 =
     omega (arith, long, counted, few_wanted tests front, c.requires.few) in (
       (
         search rules,
@@ -37,7 +44,7 @@ join-told-requires-after_bounds g t c κs within =
           (
             search rules,
             (
-              (search rules, search rules, c.requires.by, before, few),
+              (search rules, search rules, c.requires.by, before, few, counted),
               (search rules, search rules),
             ),
           ),
@@ -50,7 +57,7 @@ join-told-requires-after_bounds g t c κs within =
           (
             search rules,
             (
-              (search rules, search rules, c.requires.by, behind, few_behind),
+              (search rules, search rules, c.requires.by, behind, few_behind, rest),
               (search rules, search rules),
             ),
           ),
@@ -90,7 +97,19 @@ returns g t c =
     let first = c.args.first in
     told_both (g.F.Files.world c.args.files.now) (g.F.Files.may_fail c.args.files.now)
     (g.F.Files.gives c.args.files.now) c.args.tests.now c.args.scan.now first c.args.rows.now _ _
-    c.split_at.ensures.by_index.0 _ (ap (λ n. first + n) c.count_wanted-wanted.ensures)
+    c.split_at.ensures.by_index.0 _ (ap (λ n. first + n) (c.front_with-place.ensures.counted ∙ ap (count_of c.args.tests.now)
+    (front_is c.args.rows.now _ _ c.front_with-place.result.0 c.split_at.ensures.by_index.0 c.split_at.ensures.front_len)))
     (range_within c.args.tests.now c.args.scan.now first c.args.rows.now c.requires.rows)
     c.in_ok-told.field-0 c.in_ok-others.field-0 c.in_ok-joined.field-0 c.in_ok-joined.ensures.state
     c.in_ok-joined.ensures.verdicts told others
+
+pub overflow_sub-behind : goal.overflow_sub-behind
+overflow_sub-behind g t c =
+    let tests = c.args.tests.now in
+    let front = c.split_at.result.0.now in
+    let back = c.split_at.result.1.now in
+    let counted : c.front_with-place.result.1 ≡ count_of tests front = c.front_with-place.ensures.counted ∙ ap (count_of tests)
+    (front_is c.args.rows.now front back c.front_with-place.result.0 c.split_at.ensures.by_index.0
+    c.split_at.ensures.front_len) in
+    let all = ap (count_of tests) c.split_at.ensures.by_index.0 ∙ count_parts tests front back in
+    omega (arith, c.requires.wanted, all, counted)

@@ -1,8 +1,8 @@
 use Rattle.std.proofs.Common.{◌+◌, ◌*◌}
-use Rattle.icescan_explain.proofs.by_workers.+fn-tell_by_workers-join+arg2+fn-tell_by_workers-join+arg3+tell_by_workers.Given as goal
+use Rattle.icescan_explain.proofs.by_workers.+fn-tell_halves-join+arg2+fn-tell_halves-join+arg3+tell_halves.Given as goal
 
-abbrev pub decreases-tell_by_workers : goal.decreases-tell_by_workers
-decreases-tell_by_workers g l = 2 * l.workers
+abbrev pub decreases-tell_halves : goal.decreases-tell_halves
+decreases-tell_halves g l = 2 * l.workers
 
 abbrev pub decreases-join+arg2 : goal.decreases-join+arg2
 decreases-join+arg2 g l = 2 * l.half + 1
