@@ -301,7 +301,7 @@ pub fn explain_rows_by_workers<R: Threads + Sync, F: Files + Sync>(
     sort_by_path(&mut sorted)?;
     let scan = selected.into_scan(alloc)?;
     let told = tell_by_workers(rt, alloc, files, tests, &scan, 0, &sorted, workers.count())?;
-    let plan = told.state.into_plan(&scan)?;
+    let plan = told.state.into_plan_by(rt, &scan, workers.count())?;
     Ok(Explanation {
         plan,
         verdicts: told.verdicts,
