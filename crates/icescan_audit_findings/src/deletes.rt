@@ -3,6 +3,7 @@
 ghost use Rattle.std.specs.Prelude.{◌≡◌, ◌++◌, List, IfOk, OnOk, is_some, length, map, option_map};
 ghost use Rattle.std.specs.List.{flat_map, list_any};
 ghost use Rattle.std.specs.List.Sorted.{IsPermutation, IsSorted};
+ghost use Rattle.std.specs.Thread.{IsSync};
 ghost use Rattle.ice_deletes.specs.Found.{numbered_deletes};
 ghost use Rattle.ice_deletes.specs.Keys.{key_of};
 ghost use Rattle.icescan_audit_findings.specs.Dangling.{dangling_flaw, data_files, delete_files, delete_findings};
@@ -20,7 +21,7 @@ use ice_deletes::{DeleteIndex, Record};
 use ice_value::FileContent;
 use shared_value::Shared;
 use std::alloc::{AllocError, Global};
-use std::thread::Threads;
+use std::thread::{Threads, join};
 
 /// A live delete file.
 #[derive(Clone, Copy)]
@@ -50,6 +51,38 @@ fn delete_files(alloc: Global, files: &[LiveFile]) -> Result<Vec<DeleteFile<'_>>
             None => {}
         }
     }
+    Ok(deletes)
+}
+
+/// The same, by so many workers, each with a range of the files.
+fn delete_files_by_workers<'x, R: Threads + Sync>(
+    rt: &R,
+    alloc: Global,
+    files: &'x [LiveFile],
+    workers: usize,
+) -> Result<Vec<DeleteFile<'x>>, AllocError>
+    ensures { IfOk result (λ deletes. map delete_lent deletes.items ≡ delete_files files.now) }
+{
+    if workers < 2 {
+        return delete_files(alloc, files);
+    }
+    let half = workers / 2;
+    let other_half = workers - half;
+    let (front, back) = files.split_at(files.len() / 2);
+    let (first, others) = join(
+        rt,
+        || -> Result<Vec<DeleteFile<'_>>, AllocError>
+            requires { IsSync R.row }
+            ensures { IfOk result (λ deletes. map delete_lent deletes.items ≡ delete_files front.entry.now) }
+        { delete_files_by_workers(rt, alloc, front, half) },
+        || -> Result<Vec<DeleteFile<'_>>, AllocError>
+            requires { IsSync R.row }
+            ensures { IfOk result (λ deletes. map delete_lent deletes.items ≡ delete_files back.entry.now) }
+        { delete_files_by_workers(rt, alloc, back, other_half) },
+    );
+    let mut deletes = first?;
+    let mut others = others?;
+    deletes.append(&mut others)?;
     Ok(deletes)
 }
 
@@ -266,7 +299,7 @@ pub fn push_delete_findings_by_workers<R: Threads + Sync>(
 ) -> Result<(), AllocError>
     ensures { OnOk result (findings.new ≡ findings.old ++ delete_findings files.now) }
 {
-    let deletes = delete_files(alloc, files)?;
+    let deletes = delete_files_by_workers(rt, alloc, files, workers)?;
     if deletes.is_empty() {
         return Ok(());
     }

@@ -1,10 +1,10 @@
 //! Fingerprints of the spellings of paths: where no two files have one, no two have one path.
 
-ghost use Rattle.std.specs.Prelude.{◌≡◌, true, IfOk, map, nat_eq};
+ghost use Rattle.std.specs.Prelude.{◌≡◌, true, IfOk, map};
 ghost use Rattle.std.specs.List.{IsDistinct};
 ghost use Rattle.std.specs.List.Sorted.{IsPermutation};
 ghost use Rattle.std.specs.Thread.{IsSync};
-ghost use Rattle.icescan_audit_findings.specs.Fingerprints.{fingerprint, fingerprint_of};
+ghost use Rattle.icescan_audit_findings.specs.Fingerprints.{AreRising, AreUnlike, fingerprint, fingerprint_of};
 ghost use Rattle.icescan_audit_findings.specs.Repeats.{has_path_of};
 
 use crate::repeats::LiveFile;
@@ -69,7 +69,7 @@ fn fingerprints_by_workers<R: Threads + Sync>(
 
 /// Whether each number is above the one before.
 fn rise(numbers: &[u64]) -> bool
-    ensures { result ≡ true → IsDistinct nat_eq numbers.now }
+    ensures { result ≡ true → AreRising numbers.now }
 {
     'numbers: for i in 1..numbers.len() {
         if numbers[i] <= numbers[i - 1] {
@@ -88,7 +88,36 @@ pub fn are_apart(alloc: Global, files: &[LiveFile]) -> Result<bool, AllocError>
     Ok(rise(&prints))
 }
 
-/// The same, by so many workers.
+/// Whether no number is in both of two lists that rise.
+fn are_unlike(one: &[u64], other: &[u64]) -> bool
+    requires { AreRising one.now × AreRising other.now }
+    ensures { result ≡ true → AreUnlike one.now other.now }
+{
+    let mut i = 0;
+    let mut j = 0;
+    'numbers: while i < one.len() && j < other.len() {
+        if one[i] == other[j] {
+            return false;
+        }
+        if one[i] < other[j] {
+            i += 1;
+        } else {
+            j += 1;
+        }
+    }
+    true
+}
+
+/// Whether each of two lists rises, and no number is in both.
+fn all_differ(one: &[u64], other: &[u64]) -> bool
+    ensures one { result ≡ true → AreRising one.now }
+    ensures other { result ≡ true → AreRising other.now }
+    ensures unlike { result ≡ true → AreUnlike one.now other.now }
+{
+    rise(one) && rise(other) && are_unlike(one, other)
+}
+
+/// Whether no two files have one path, by so many workers.
 pub fn are_apart_by_workers<R: Threads + Sync>(
     rt: &R,
     alloc: Global,
@@ -97,6 +126,24 @@ pub fn are_apart_by_workers<R: Threads + Sync>(
 ) -> Result<bool, AllocError>
     ensures { IfOk result (λ apart. apart ≡ true → IsDistinct has_path_of files.now) }
 {
-    let prints = fingerprints_by_workers(rt, alloc, files, workers)?;
-    Ok(rise(&prints))
+    if workers < 2 {
+        return are_apart(alloc, files);
+    }
+    let half = workers / 2;
+    let other_half = workers - half;
+    let (front, back) = files.split_at(files.len() / 2);
+    let (first, others) = join(
+        rt,
+        || -> Result<Vec<u64>, AllocError>
+            requires { IsSync R.row }
+            ensures { IfOk result (λ prints. IsPermutation (map fingerprint_of front.entry.now) prints.items) }
+        { fingerprints_by_workers(rt, alloc, front, half) },
+        || -> Result<Vec<u64>, AllocError>
+            requires { IsSync R.row }
+            ensures { IfOk result (λ prints. IsPermutation (map fingerprint_of back.entry.now) prints.items) }
+        { fingerprints_by_workers(rt, alloc, back, other_half) },
+    );
+    let first = first?;
+    let others = others?;
+    Ok(all_differ(&first, &others))
 }
