@@ -1,10 +1,10 @@
 -- Data files that need not be looked up, since one that was looked up covers them.
-use Rattle.std.proofs.Common.{◌≡◌, ◌<◌, ◌≤◌, ◌∙◌, ℕ, zero, suc, ◌+◌, Bool, true, false, ◌==◌, ◌&&◌, ◌||◌, List, [], ◌∷◌, ◌++◌, ap, sym}
+use Rattle.std.proofs.Common.{◌≡◌, ◌<◌, ◌∙◌, ℕ, zero, suc, ◌+◌, Bool, true, false, ◌==◌, ◌&&◌, ◌||◌, List, [], ◌∷◌, ◌++◌, ap, sym}
 use Rattle.std.proofs.Common.{◌⊎◌, inl, inr, Option, Some, None, arith, get_or, is_some, length, refl, take, slice_set, unwrap_or}
 use Rattle.std.specs.List.{Contains, list_any}
 use Rattle.std.proofs.lemmas.List.Elements.{Contains-append_cases, Contains-append_left, Contains-append_right}
 use Rattle.std.proofs.lemmas.List.Folds.{list_any-append}
-use Rattle.ice_value.specs.Applying.{AppliesAs, Applies, DataKey, DeleteKey, Names, SamePartition, applies}
+use Rattle.ice_value.specs.Applying.{AppliesAs, DataKey, DeleteKey, Names, SamePartition, applies}
 use Rattle.ice_value.specs.declared.file_content.FileContent.{FileContent}
 use Rattle.ice_value.specs.declared.file_content.FileContent.TheVariants.{Data, PositionDeletes, EqualityDeletes}
 use Rattle.ice_value.proofs.Deletes.{applies-decides}

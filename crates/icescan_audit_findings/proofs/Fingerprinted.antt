@@ -8,7 +8,6 @@ use Rattle.std.proofs.lemmas.Map.Keys.{IsDistinct-IsPermutation}
 use Rattle.std.proofs.lemmas.Slice.Eq.{bytes_eq-Decides}
 use Rattle.std.specs.List.{AllByRecursion, IsDistinct}
 use Rattle.std.specs.List.Sorted.{IsPermutation}
-use Rattle.std.specs.Str.{bytes_eq}
 use Rattle.icescan_audit_findings.specs.Fingerprints.{AreRising, AreUnlike, fingerprint, fingerprint_of}
 use Rattle.icescan_audit_findings.specs.Repeats.{has_path_of, spelling_of}
 use Rattle.icescan_audit_findings.specs.declared.repeats.LiveFile.{LiveFile}

@@ -1,4 +1,4 @@
-use Rattle.std.proofs.Common.{◌≡◌, ap, arith, length, subst, sym}
+use Rattle.std.proofs.Common.{◌≡◌, arith, length, subst, sym}
 use Rattle.ice_deletes.specs.Unions.{AreBelow}
 use Rattle.icescan_audit_findings.specs.Dangling.{data_files}
 use Rattle.icescan_audit_findings.specs.Lookups.{AreMarks}

@@ -1,4 +1,4 @@
-use Rattle.std.proofs.Common.{◌≤◌, ◌+◌, ◌-◌, length}
+use Rattle.std.proofs.Common.{◌+◌, ◌-◌, length}
 use Rattle.icescan_audit_findings.proofs.Fingerprinted.{AreFar}
 use Rattle.icescan_audit_findings.proofs.fingerprints.are_unlike.Given as goal
 

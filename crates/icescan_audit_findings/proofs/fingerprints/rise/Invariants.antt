@@ -1,4 +1,3 @@
-use Rattle.std.proofs.Common.{◌<◌, ◌≤◌}
 use Rattle.icescan_audit_findings.proofs.Fingerprinted.{RiseUpTo}
 use Rattle.icescan_audit_findings.proofs.fingerprints.rise.Given as goal
 

@@ -1,4 +1,4 @@
-use Rattle.std.proofs.Common.{[], ◌∷◌, None, arith, length}
+use Rattle.std.proofs.Common.{[], ◌∷◌, None, arith}
 use Rattle.std.proofs.lemmas.List.{length-append}
 use Rattle.icescan_audit_findings.proofs.Covering.{empty_more}
 use Rattle.icescan_audit_findings.proofs.reaching.empty_slots.Goals as goal

@@ -1,8 +1,6 @@
-use Rattle.std.proofs.Common.{◌≡◌, ◌∙◌, ◌↔◌, ◌||◌, ℕ, List, ap, sym, subst, arith, false, get_or, length, option_map}
-use Rattle.std.specs.List.{Contains, list_any}
-use Rattle.ice_value.specs.Applying.{DataKey, DeleteKey}
-use Rattle.ice_deletes.specs.Found.{AppliesAt, lent}
-use Rattle.ice_deletes.specs.declared.index.Hits.{Hits}
+use Rattle.std.proofs.Common.{◌∙◌, ◌||◌, ap, sym, arith, false, get_or, length, option_map}
+use Rattle.std.specs.List.{list_any}
+use Rattle.ice_deletes.specs.Found.{lent}
 use Rattle.icescan_audit_findings.specs.Dangling.{data_of}
 use Rattle.icescan_audit_findings.specs.Lookups.{data_lent, is_hit}
 use Rattle.icescan_audit_findings.proofs.Hitting.{found_below, in_index, marks_more}
