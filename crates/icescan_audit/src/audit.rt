@@ -15,10 +15,11 @@ use ice_desk::Files;
 use ice_manifest_reading::Row;
 use icescan_audit_findings::{
     Basis, FalseTotal, Finding, LiveFile, SaidTotal, false_totals, push_delete_findings,
-    push_repeats,
+    push_delete_findings_by_workers, push_repeats, push_repeats_by_workers,
 };
 use icescan_text::{RunFault, read_file_into};
 use std::alloc::{AllocError, Global};
+use std::thread::Threads;
 
 /// What was found of a snapshot.
 #[derive(Debug, Drop)]
@@ -63,6 +64,33 @@ impl Reading {
         push_delete_findings(alloc, &mut findings, live.as_slice())?;
         let false_totals = false_totals(alloc, said, live.as_slice())?;
         push_repeats(alloc, &mut findings, live.into_vec())?;
+        Ok(Audit {
+            manifests,
+            entries,
+            findings,
+            false_totals,
+        })
+    }
+
+    /// The same, by so many workers.
+    pub fn whole_by_workers<R: Threads + Sync>(
+        self,
+        rt: &R,
+        alloc: Global,
+        said: &[SaidTotal],
+        workers: usize,
+    ) -> Result<Audit, AllocError>
+        ensures { IfOk result (λ audit. audit ≡ whole said.now self) }
+    {
+        let Reading {
+            manifests,
+            entries,
+            mut findings,
+            live,
+        } = self;
+        push_delete_findings_by_workers(rt, alloc, &mut findings, live.as_slice(), workers)?;
+        let false_totals = false_totals(alloc, said, live.as_slice())?;
+        push_repeats_by_workers(rt, alloc, &mut findings, live.into_vec(), workers)?;
         Ok(Audit {
             manifests,
             entries,

@@ -43,7 +43,7 @@ pub(crate) fn audit_table<R: Threads + Sync, F: Files + Sync>(
     check_specs(basis.specs.as_slice(), &rows)?;
     let basis = basis.among(&rows);
     let read = audit_rows_by_workers(rt, alloc, files, &basis, &rows, workers)?;
-    Ok(read.whole(alloc, said.as_slice())?)
+    Ok(read.whole_by_workers(rt, alloc, said.as_slice(), workers)?)
 }
 
 /// Audits a snapshot of the table whose metadata these are the bytes of: reads each of its manifests, also those that

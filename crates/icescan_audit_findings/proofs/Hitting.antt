@@ -1,11 +1,12 @@
 -- The delete files that an index finds for a data file, by their numbers.
 use Rattle.std.proofs.Common.{◌≡◌, ◌<◌, ◌≤◌, ℕ, zero, suc, ◌+◌, ◌==◌, Bool, true, false, not, ◌&&◌, ◌||◌, List, [], ◌∷◌}
 use Rattle.std.proofs.Common.{◌++◌, map, take, drop, append-nil}
-use Rattle.std.proofs.Common.{◌↔◌, length, filter, get_or, cond, refl, sym, ap, ◌∙◌, arith}
+use Rattle.std.proofs.Common.{◌↔◌, length, filter, get_or, cond, refl, sym, ap, ◌∙◌, arith, subst}
 use Rattle.std.specs.List.{AllByRecursion, Contains, enumerate_from, list_any}
 use Rattle.std.specs.List.Sorted.{IsPermutation}
 use Rattle.std.proofs.lemmas.Bool.{eq-eqb, eqb-true, ne_eqb}
-use Rattle.std.proofs.lemmas.List.Elements.{All-contains, All-from_recursion}
+use Rattle.std.proofs.lemmas.List.{get_or-map, length-map}
+use Rattle.std.proofs.lemmas.List.Elements.{All-contains, All-from_recursion, filter_map-append}
 use Rattle.std.proofs.Math.Bool.{or_assoc}
 use Rattle.std.proofs.Math.ListN.{drop_of_length-le}
 use Rattle.std.proofs.Math.Seq.{take-length}
@@ -15,9 +16,13 @@ use Rattle.ice_value.specs.Applying.{DataKey, DeleteKey, applies, applies_as}
 use Rattle.ice_value.specs.declared.file_content.FileContent.{FileContent}
 use Rattle.ice_value.specs.declared.file_content.FileContent.TheVariants.{Data, PositionDeletes, EqualityDeletes}
 use Rattle.ice_value.proofs.Deletes.{applies-decides}
-use Rattle.ice_deletes.specs.Found.{AppliesAt, holds, is_content, numbered_deletes}
+use Rattle.ice_deletes.specs.Found.{AppliesAt, holds, is_content, lent, numbered_deletes}
 use Rattle.ice_deletes.specs.Unions.{AreBelow}
-use Rattle.icescan_audit_findings.specs.Lookups.{is_hit}
+use Rattle.ice_deletes.specs.declared.index.Hits.{Hits}
+use Rattle.icescan_audit_findings.specs.Dangling.{data_files, data_of, delete_key, is_reaching}
+use Rattle.icescan_audit_findings.specs.Lookups.{AreMarks, delete_lent, is_hit}
+use Rattle.icescan_audit_findings.specs.declared.deletes.DeleteFile.{DeleteFile}
+use Rattle.icescan_audit_findings.specs.declared.repeats.LiveFile.{LiveFile}
 
 -- ---- elements that pass a test
 
@@ -41,7 +46,7 @@ same_answer true b to back = sym (to refl)
 same_answer false true to back = back refl
 same_answer false false to back = refl
 
-both : (a b : Bool) → (a && b) ≡ true → (a ≡ true) × (b ≡ true)
+pub both : (a b : Bool) → (a && b) ≡ true → (a ≡ true) × (b ≡ true)
 both true b h = (refl, h)
 both false b h = absurd cc
 
@@ -166,6 +171,13 @@ index_below keys index same =
     get_or_default (x ∷ xs) zero d low = refl
     get_or_default (x ∷ xs) (suc i) d low = get_or_default xs i d (omega arith)
 
+-- what is found in the finder is found in its index
+pub in_index : (finder index : List (ℕ × DeleteKey)) (x : DataKey) (hits : Hits) → finder ≡ index
+    → ((n : ℕ) → Contains (lent hits) n ↔ AppliesAt finder x n)
+    → (n : ℕ) → Contains (lent hits) n ↔ AppliesAt index x n
+in_index finder index x hits same exact =
+    subst (λ (i : List (ℕ × DeleteKey)). (n : ℕ) → Contains (lent hits) n ↔ AppliesAt i x n) same exact
+
 -- ---- marks
 
 -- the marks of one data file more
@@ -211,3 +223,42 @@ written n new old many same =
     let none : drop (length new) old ≡ [] = drop_of_length-le old (omega (arith, same)) in
     let all : n ≡ length new = omega (arith, many, same) in
     ap (λ rest. take n (new ++ rest)) none ∙ ap (take n) (append-nil new) ∙ ap (λ k. take k new) all ∙ take-length new
+
+-- ---- the marks of parts of the files
+
+pub both_marks : (files front back : List LiveFile) (index : List (ℕ × DeleteKey)) (deletes : ℕ)
+    (first others new : List Bool) → files ≡ front ++ back → AreMarks deletes index (data_files front) first
+    → AreMarks deletes index (data_files back) others → length new ≡ length first
+    → ((k : ℕ) → k < length first → get_or new k false ≡ (get_or first k false || get_or others k false))
+    → AreMarks deletes index (data_files files) new
+both_marks files front back index deletes first others new parts h o many marked = (
+  many ∙ h.0,
+  λ k low.
+      let p : DataKey → Bool = λ x. is_hit index x k in
+      let all : data_files files ≡ data_files front ++ data_files back = ap data_files parts
+      ∙ filter_map-append data_of front back in
+      marked k (omega (arith, low, h.0))
+      ∙ ap (λ b. b || get_or others k false) (h.1 k low)
+      ∙ ap (λ b. list_any p (data_files front) || b) (o.1 k low)
+      ∙ sym (ap (list_any p) all ∙ list_any-append p (data_files front) (data_files back)),
+)
+
+-- ---- the marks of all delete files
+
+abbrev key_at : DeleteFile → DeleteKey
+key_at d = delete_key (delete_lent d).1
+
+pub marks_below : (deletes : List DeleteFile) (index : List (ℕ × DeleteKey))
+    → IsPermutation (numbered_deletes (map key_at deletes)) index → AreBelow (length deletes) index
+marks_below deletes index same =
+    subst (λ n. AreBelow n index) (length-map deletes key_at) (index_below (map key_at deletes) index same)
+
+pub marks_tell : (deletes : List DeleteFile) (index : List (ℕ × DeleteKey)) (xs : List DataKey) (marks : List Bool)
+    → IsPermutation (numbered_deletes (map key_at deletes)) index → AreMarks (length deletes) index xs marks
+    → marks ≡ map (λ d. is_reaching xs (delete_lent d).1) deletes
+marks_tell deletes index xs marks same h =
+    let keys = map key_at deletes in
+    all_at (λ d. is_reaching xs (delete_lent d).1) deletes marks h.0 (λ k d low at.
+    mark_tells keys index same xs k (key_at d) false (get_or marks k false)
+    (omega (arith, low, length-map deletes key_at))
+    (get_or-map key_at deletes k d (key_at d) low ∙ ap key_at at) refl (h.1 k low))

@@ -25,4 +25,5 @@ pub mod Unlike
 pub mod Honest
 pub mod Clean
 pub mod InOrder
-pub mod OfSets
+pub mod Fingerprinted
+pub mod Covering

@@ -57,3 +57,13 @@ paths_more h g f xs i x zs z y low at kept e one =
     ∙ ap (λ ys. ys ++ f z ∷ []) kept
     ∙ ap (λ w. map g (filter_map h (take i xs)) ++ w ∷ []) one
     ∙ sym (ap (map g) (some_more h xs i x y low at e) ∙ map-append g (filter_map h (take i xs)) (y ∷ []))
+
+-- what is mapped to what two parts give
+pub parts_given : {X Y Z : Type 0} (h : X → Option Y) (f : Z → Y) (xs front back : List X) (first others : List Z)
+    → xs ≡ front ++ back → map f first ≡ filter_map h front → map f others ≡ filter_map h back
+    → map f (first ++ others) ≡ filter_map h xs
+parts_given h f xs front back first others parts one other =
+    map-append f first others
+    ∙ ap (λ ys. ys ++ map f others) one
+    ∙ ap (λ ys. filter_map h front ++ ys) other
+    ∙ sym (ap (filter_map h) parts ∙ filter_map-append h front back)

@@ -15,6 +15,7 @@ pub mod Honesty
 pub mod Findings
 pub mod Spelling
 pub mod Repeats
+pub mod Fingerprints
 pub mod Totals
 pub mod RowFlaws
 pub mod Examining

@@ -1,52 +1,33 @@
 //! Live delete files that apply to no live data file, and those that name a file that is none.
 
-ghost use Rattle.std.specs.Prelude.{◌≡◌, ◌<◌, ◌==◌, ◌||◌, ◌++◌, ℕ, Bool, false, IfOk, OnOk, Contains, is_some, length, map, get_or};
-ghost use Rattle.std.specs.Prelude.{List, option_map, ◌↔◌};
+ghost use Rattle.std.specs.Prelude.{◌≡◌, ◌++◌, List, IfOk, OnOk, is_some, length, map, option_map};
 ghost use Rattle.std.specs.List.{flat_map, list_any};
 ghost use Rattle.std.specs.List.Sorted.{IsPermutation, IsSorted};
-ghost use Rattle.ice_deletes.specs.Found.{AppliesAt, lent};
+ghost use Rattle.std.specs.Thread.{IsSync};
+ghost use Rattle.ice_deletes.specs.Found.{numbered_deletes};
 ghost use Rattle.ice_deletes.specs.Keys.{key_of};
-ghost use Rattle.ice_deletes.specs.Unions.{AreBelow};
-ghost use Rattle.icescan_audit_findings.specs.Dangling.{dangling_flaw, data_files, data_of, delete_files, delete_findings, delete_key};
-ghost use Rattle.icescan_audit_findings.specs.Dangling.{delete_of, finding_where, findings_by, findings_beside, is_reaching};
-ghost use Rattle.icescan_audit_findings.specs.Dangling.{names_none, paths_in};
+ghost use Rattle.icescan_audit_findings.specs.Dangling.{dangling_flaw, data_files, delete_files, delete_findings};
+ghost use Rattle.icescan_audit_findings.specs.Dangling.{delete_key, delete_of, finding_where, findings_by};
+ghost use Rattle.icescan_audit_findings.specs.Dangling.{findings_beside, is_reaching, names_none, paths_in};
 ghost use Rattle.ice_value.specs.Applying.{DataKey};
-ghost use Rattle.icescan_audit_findings.specs.Lookups.{data_lent, delete_lent, is_hit, naming_none, path_order};
+ghost use Rattle.icescan_audit_findings.specs.Lookups.{delete_lent, naming_none, path_order};
 
 use crate::file_key::FileKey;
 use crate::finding::{Finding, Flaw};
+use crate::reaching::{data_of, marks_by_workers, marks_of};
 use crate::repeats::LiveFile;
 use contract_words::Items;
-use ice_deletes::{DeleteIndex, Finder, Hits, Record};
+use ice_deletes::{DeleteIndex, Record};
 use ice_value::FileContent;
 use shared_value::Shared;
 use std::alloc::{AllocError, Global};
-
-/// A live data file.
-#[derive(Clone, Copy)]
-struct DataFile<'a> {
-    path: &'a [u8],
-    key: &'a FileKey,
-}
+use std::thread::{Threads, join};
 
 /// A live delete file.
 #[derive(Clone, Copy)]
 struct DeleteFile<'a> {
     file: &'a LiveFile,
     key: &'a FileKey,
-}
-
-fn data_of(file: &LiveFile) -> Option<DataFile<'_>>
-    ensures { option_map data_lent result ≡ data_of file.now }
-{
-    let key = file.key.as_ref()?;
-    match key.content {
-        FileContent::Data => Some(DataFile {
-            path: file.path.as_slice(),
-            key,
-        }),
-        _ => None,
-    }
 }
 
 fn delete_of(file: &LiveFile) -> Option<DeleteFile<'_>>
@@ -70,6 +51,38 @@ fn delete_files(alloc: Global, files: &[LiveFile]) -> Result<Vec<DeleteFile<'_>>
             None => {}
         }
     }
+    Ok(deletes)
+}
+
+/// The same, by so many workers, each with a range of the files.
+fn delete_files_by_workers<'x, R: Threads + Sync>(
+    rt: &R,
+    alloc: Global,
+    files: &'x [LiveFile],
+    workers: usize,
+) -> Result<Vec<DeleteFile<'x>>, AllocError>
+    ensures { IfOk result (λ deletes. map delete_lent deletes.items ≡ delete_files files.now) }
+{
+    if workers < 2 {
+        return delete_files(alloc, files);
+    }
+    let half = workers / 2;
+    let other_half = workers - half;
+    let (front, back) = files.split_at(files.len() / 2);
+    let (first, others) = join(
+        rt,
+        || -> Result<Vec<DeleteFile<'_>>, AllocError>
+            requires { IsSync R.row }
+            ensures { IfOk result (λ deletes. map delete_lent deletes.items ≡ delete_files front.entry.now) }
+        { delete_files_by_workers(rt, alloc, front, half) },
+        || -> Result<Vec<DeleteFile<'_>>, AllocError>
+            requires { IsSync R.row }
+            ensures { IfOk result (λ deletes. map delete_lent deletes.items ≡ delete_files back.entry.now) }
+        { delete_files_by_workers(rt, alloc, back, other_half) },
+    );
+    let mut deletes = first?;
+    let mut others = others?;
+    deletes.append(&mut others)?;
     Ok(deletes)
 }
 
@@ -99,75 +112,13 @@ fn records<'a>(alloc: Global, deletes: &[DeleteFile<'a>]) -> Result<Vec<Record<'
     Ok(records)
 }
 
-/// Marks the places of these numbers.
-fn mark(marks: &mut [bool], numbers: &[usize])
-    requires { (n : ℕ) → Contains numbers.now n → n < length marks.old }
-    ensures many { length marks.new ≡ length marks.old }
-    ensures marked { (k : ℕ) → k < length marks.old →
-        get_or marks.new k false ≡ (get_or marks.old k false || list_any (λ n. n == k) numbers.now) }
-{
-    'numbers: for number in numbers {
-        marks[*number] = true;
-    }
-}
-
-/// Marks the places of the delete files that were found.
-fn mark_hits(marks: &mut [bool], hits: &Hits<'_>)
-    requires { (n : ℕ) → Contains (lent hits.now) n → n < length marks.old }
-    ensures many { length marks.new ≡ length marks.old }
-    ensures marked { (k : ℕ) → k < length marks.old →
-        get_or marks.new k false ≡ (get_or marks.old k false || list_any (λ n. n == k) (lent hits.now)) }
-{
-    mark(marks, hits.positions);
-    mark(marks, hits.referenced);
-    mark(marks, hits.equalities);
-    mark(marks, hits.everywhere);
-}
-
-/// The delete files that apply to a data file.
-fn hits_for<'i, 'x>(finder: &mut Finder<'i, 'x>, found: &DataFile<'x>) -> Hits<'i>
-    ensures exact { (n : ℕ) → Contains (lent result) n ↔ AppliesAt finder.old (data_lent found.now) n }
-    ensures same { finder.new ≡ finder.old }
-{
-    let key = found.key;
-    finder.for_data(
-        key.spec_id,
-        key.tuple.as_slice(),
-        key.sequence_number,
-        found.path,
-    )
-}
-
-/// Marks the places of the delete files that apply to one of the data files.
-fn mark_reaching(marks: &mut [bool], index: &DeleteIndex, files: &[LiveFile])
-    requires { AreBelow (length marks.old) index.now }
-    ensures many { length marks.new ≡ length marks.old }
-    ensures marked { (k : ℕ) → k < length marks.old → get_or marks.new k false
-        ≡ (get_or marks.old k false || list_any (λ x. is_hit index.now x k) (data_files files.now)) }
-{
-    let mut finder = Finder::new(index);
-    'files: for file in files {
-        match data_of(file) {
-            Some(found) => mark_hits(marks, &hits_for(&mut finder, &found)),
-            None => {}
-        }
-    }
-}
-
-/// Of each delete file whether it applies to one of the data files.
-fn reaching(
-    alloc: Global,
-    files: &[LiveFile],
-    deletes: &[DeleteFile<'_>],
-) -> Result<Vec<bool>, AllocError>
-    ensures { IfOk result (λ marks. marks.items
-        ≡ map (λ d. is_reaching (data_files files.now) (delete_lent d).1) deletes.now) }
+/// The index of delete files, by their places.
+fn index_of(alloc: Global, deletes: &[DeleteFile<'_>]) -> Result<DeleteIndex, AllocError>
+    ensures { IfOk result (λ index.
+        IsPermutation (numbered_deletes (map (λ d. delete_key (delete_lent d).1) deletes.now)) index) }
 {
     let records = records(alloc, deletes)?;
-    let index = DeleteIndex::build(alloc, &records)?;
-    let mut marks = vec![in alloc; false; deletes.len()]?;
-    mark_reaching(&mut marks, &index, files);
-    Ok(marks)
+    DeleteIndex::build(alloc, &records)
 }
 
 /// The paths of the data files among live files.
@@ -304,6 +255,22 @@ fn push_findings(
     Ok(())
 }
 
+/// Puts the findings on delete files last, file by file. Those that are marked apply to a data file.
+fn push_marked(
+    alloc: Global,
+    findings: &mut Items<Finding>,
+    files: &[LiveFile],
+    deletes: &[DeleteFile<'_>],
+    marks: &[bool],
+) -> Result<(), AllocError>
+    requires { marks.now ≡ map (λ d. is_reaching (data_files files.now) (delete_lent d).1) deletes.now }
+    ensures { OnOk result (findings.new ≡ findings.old
+        ++ flat_map (findings_beside (data_files files.now)) (map delete_lent deletes.now)) }
+{
+    let paths = paths_asked(alloc, files, deletes)?;
+    push_findings(alloc, findings, deletes, &paths, marks)
+}
+
 /// Puts the findings last that the delete files among live files name a path of no live data file, and that they apply
 /// to none, file by file. Only files count whose keys are kept.
 pub fn push_delete_findings(
@@ -317,7 +284,26 @@ pub fn push_delete_findings(
     if deletes.is_empty() {
         return Ok(());
     }
-    let paths = paths_asked(alloc, files, &deletes)?;
-    let marks = reaching(alloc, files, &deletes)?;
-    push_findings(alloc, findings, &deletes, &paths, &marks)
+    let index = index_of(alloc, &deletes)?;
+    let marks = marks_of(alloc, &index, deletes.len(), files)?;
+    push_marked(alloc, findings, files, &deletes, &marks)
+}
+
+/// The same, by so many workers.
+pub fn push_delete_findings_by_workers<R: Threads + Sync>(
+    rt: &R,
+    alloc: Global,
+    findings: &mut Items<Finding>,
+    files: &[LiveFile],
+    workers: usize,
+) -> Result<(), AllocError>
+    ensures { OnOk result (findings.new ≡ findings.old ++ delete_findings files.now) }
+{
+    let deletes = delete_files_by_workers(rt, alloc, files, workers)?;
+    if deletes.is_empty() {
+        return Ok(());
+    }
+    let index = index_of(alloc, &deletes)?;
+    let marks = marks_by_workers(rt, alloc, &index, deletes.len(), files, workers)?;
+    push_marked(alloc, findings, files, &deletes, &marks)
 }

@@ -11,6 +11,7 @@ mod examined;
 mod fields;
 mod file_key;
 mod finding;
+mod fingerprints;
 mod flaws;
 mod header;
 mod ids;
@@ -18,6 +19,7 @@ mod laws;
 mod limits;
 mod pairs;
 mod places;
+mod reaching;
 mod repeats;
 mod rows;
 mod spelling;
@@ -25,7 +27,7 @@ mod totals;
 mod typed_columns;
 
 pub use basis::{Basis, TypedColumn};
-pub use deletes::push_delete_findings;
+pub use deletes::{push_delete_findings, push_delete_findings_by_workers};
 pub use entries::audit_manifest;
 pub use file_key::{FileKey, KeptKey};
 pub use finding::{ColumnFlaw, Count, EntryFlaw, FieldFlaw, Finding, Flaw, RowFlaw, count_faults};
@@ -34,7 +36,7 @@ pub use laws::{
     findings_tell_counts, findings_tell_coverage, findings_tell_entries, findings_tell_totals,
     limits_tell_coverage, repeats_tell_paths_apart,
 };
-pub use repeats::{LiveFile, push_repeats};
+pub use repeats::{LiveFile, push_repeats, push_repeats_by_workers};
 pub use rows::push_row_findings;
 pub use totals::{FalseTotal, SaidTotal, Total, false_totals};
 pub use typed_columns::TypedColumns;

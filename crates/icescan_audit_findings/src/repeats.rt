@@ -8,11 +8,12 @@ ghost use Rattle.icescan_audit_findings.specs.Repeats.{repeats_in, spelling_of};
 
 use crate::file_key::KeptKey;
 use crate::finding::{Finding, Flaw};
+use crate::fingerprints::{are_apart, are_apart_by_workers};
 use contract_words::{Items, Text};
 use ice_value::FileContent;
 use shared_value::Shared;
 use std::alloc::{AllocError, Global};
-use std::collections::HashSet;
+use std::thread::{Threads, join};
 
 /// A live file.
 #[derive(Debug, Drop)]
@@ -34,7 +35,7 @@ pub struct LiveFile {
 
 impl LiveFile {
     /// The spelling of its path by which it is told from others.
-    fn spelling(&self) -> &[u8]
+    pub(crate) fn spelling(&self) -> &[u8]
         ensures { result.now ≡ spelling_of self.now }
     {
         match &self.spelling {
@@ -50,26 +51,6 @@ fn sort_by_path(files: &mut Vec<LiveFile>) -> Result<(), AllocError>
 {
     files.sort_by(|a, b| a.spelling().cmp(b.spelling()))?;
     Ok(())
-}
-
-/// The paths of files, as they are told from each other.
-fn paths_of(alloc: Global, files: &[LiveFile]) -> Result<Vec<&[u8]>, AllocError>
-    ensures { IfOk result (λ paths. map (λ p. p.now) paths.items ≡ map spelling_of files.now) }
-{
-    let mut paths = Vec::with_capacity(alloc, files.len())?;
-    'files: for file in files {
-        paths.push(file.spelling())?;
-    }
-    Ok(paths)
-}
-
-/// Whether no two files have one path. It takes less time than to put them in order.
-fn are_apart(alloc: Global, files: &[LiveFile]) -> Result<bool, AllocError>
-    ensures { IfOk result (λ apart. apart ≡ true → IsDistinct has_path_of files.now) }
-{
-    let paths = paths_of(alloc, files)?;
-    let different: HashSet<&[u8]> = paths.into_iter().collect(alloc)?;
-    Ok(different.len() == files.len())
 }
 
 /// Puts the finding last that a file has the path of another, where it has.
@@ -106,6 +87,41 @@ fn push_repeats_in(
     Ok(())
 }
 
+/// Puts the findings last on files that have the path of another, where not all are known to be apart.
+fn push_repeats_unless(
+    alloc: Global,
+    findings: &mut Items<Finding>,
+    apart: bool,
+    files: &mut Vec<LiveFile>,
+) -> Result<(), AllocError>
+    requires { apart ≡ true → IsDistinct has_path_of files.old.items }
+    ensures { OnOk result (findings.new ≡ findings.old ++ repeats files.old.items) }
+{
+    if apart {
+        return Ok(());
+    }
+    sort_by_path(files)?;
+    push_repeats_in(alloc, findings, files)
+}
+
+/// Lets files go, by so many workers.
+fn drop_by_workers<R: Threads + Sync>(rt: &R, files: Vec<LiveFile>, workers: usize) {
+    if workers < 2 {
+        return;
+    }
+    let half = workers / 2;
+    let other_half = workers - half;
+    let mut front = files;
+    let Ok(back) = front.split_off(front.len() / 2) else {
+        return;
+    };
+    join(
+        rt,
+        move || drop_by_workers(rt, front, half),
+        move || drop_by_workers(rt, back, other_half),
+    );
+}
+
 /// Puts the findings last on files that have the path of another, in the same spelling or in another, in the order of
 /// these; the first of each path is not told.
 pub fn push_repeats(
@@ -115,11 +131,24 @@ pub fn push_repeats(
 ) -> Result<(), AllocError>
     ensures { OnOk result (findings.new ≡ findings.old ++ repeats files.items) }
 {
-    let apart = are_apart(alloc, &files)?;
-    if apart {
-        return Ok(());
-    }
     let mut files = files;
-    sort_by_path(&mut files)?;
-    push_repeats_in(alloc, findings, &files)
+    let apart = are_apart(alloc, &files)?;
+    push_repeats_unless(alloc, findings, apart, &mut files)
+}
+
+/// The same, by so many workers.
+pub fn push_repeats_by_workers<R: Threads + Sync>(
+    rt: &R,
+    alloc: Global,
+    findings: &mut Items<Finding>,
+    files: Vec<LiveFile>,
+    workers: usize,
+) -> Result<(), AllocError>
+    ensures { OnOk result (findings.new ≡ findings.old ++ repeats files.items) }
+{
+    let mut files = files;
+    let apart = are_apart_by_workers(rt, alloc, &files, workers)?;
+    push_repeats_unless(alloc, findings, apart, &mut files)?;
+    drop_by_workers(rt, files, workers);
+    Ok(())
 }

@@ -66,7 +66,7 @@ returns-clause-answer g c =
     let has = rw c.as_str.ensures at (c.in_ok-rows.ensures.found world told) in
     let read = rw (c.among-basis.ensures, c.deref-2.ensures.value, c.deref-3.ensures.value) at
     (c.in_ok-read.ensures.found world told) in (
-      rw (c.in_ok-whole.ensures, c.as_slice-2.ensures)
+      rw (c.in_ok-whole_by_workers.ensures, c.as_slice-2.ensures)
           (audit_there f world c.args.metadata.now c.args.target.now c.in_ok-subject.subject
           c.in_ok-subject.ensures.gives c.in_ok-rows.rows.items has known c.in_ok-read.read read),
       tt,
@@ -110,5 +110,5 @@ returns-clause-read g c = record {
   listed = rw c.as_str.ensures at c.in_ok-rows.ensures.given;
   known = sym (rw (c.as_slice.ensures, c.deref.ensures.value) at c.in_ok-check_specs.ensures.known);
   manifests = rw (c.among-basis.ensures, c.deref-2.ensures.value, c.deref-3.ensures.value) at c.in_ok-read.ensures.read;
-  is = rw c.as_slice-2.ensures at c.in_ok-whole.ensures;
+  is = rw c.as_slice-2.ensures at c.in_ok-whole_by_workers.ensures;
 }
