@@ -8,11 +8,10 @@ use crate::kept::segments::{FileNumber, Segments};
 use ice_manifest_reading::LentEntry;
 use ice_value::Cell;
 use std::alloc::{AllocError, Global};
+use std::hash::{FoldHasher, Hasher};
 
 /// How many places are remembered at most.
 const SLOTS: usize = 4096;
-
-const FACTOR: u64 = 11_400_714_819_323_198_485;
 
 /// Places of data files that were looked up, the last of each slot: those that are alike have the same slot. Which are
 /// remembered decides how often a file is looked up, and nothing else.
@@ -63,36 +62,22 @@ impl Recent {
 
 /// The slot of a file, by its spec, its sequence number and its partition values.
 fn slot_of(entry: &LentEntry<'_>) -> usize {
-    let mut hash = mixed(
-        entry.sequence_number.get(),
-        entry.spec_id.unsigned_abs() as u64,
-    );
+    let mut hasher = FoldHasher::default();
+    hasher.write_i32(entry.spec_id);
+    hasher.write_u64(entry.sequence_number.get());
     for cell in entry.tuple {
-        hash = mixed(hash, word_of(cell));
+        feed(&mut hasher, cell);
     }
-    (hash >> 32) as usize % SLOTS
+    (hasher.finish() % SLOTS as u64) as usize
 }
 
-fn mixed(hash: u64, word: u64) -> u64 {
-    let product = (hash ^ word).wrapping_mul(FACTOR);
-    product ^ (product >> 32)
-}
-
-/// A number that is the same for values that are equal.
-fn word_of(cell: &Cell) -> u64 {
+/// Feeds a hasher a partition value.
+fn feed(hasher: &mut FoldHasher, cell: &Cell) {
     match cell {
-        Cell::Null => 0,
-        Cell::Bool(value) => 1 + *value as u64,
-        Cell::Whole(value) => value.unsigned_abs(),
-        Cell::Text(text) => word_of_bytes(text.as_bytes()),
-        Cell::Bytes(bytes) => word_of_bytes(bytes.as_slice()),
+        Cell::Null => hasher.write_u8(0),
+        Cell::Bool(value) => hasher.write_u8(*value as u8),
+        Cell::Whole(value) => hasher.write_i64(*value),
+        Cell::Text(text) => hasher.write(text.as_bytes()),
+        Cell::Bytes(bytes) => hasher.write(bytes.as_slice()),
     }
-}
-
-fn word_of_bytes(bytes: &[u8]) -> u64 {
-    let mut hash = 0;
-    for byte in bytes {
-        hash = mixed(hash, *byte as u64);
-    }
-    hash
 }

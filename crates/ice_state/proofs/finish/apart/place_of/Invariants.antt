@@ -3,7 +3,6 @@ use Rattle.ice_state.proofs.finish.apart.place_of.Given as goal
 
 abbrev pub invariant-steps : goal.invariant-steps
 invariant-steps l = record {
-  some : 1 ≤ l.step;
   behind : l.passed ≤ l.step;
   within : l.passed ≤ l.most;
 }
