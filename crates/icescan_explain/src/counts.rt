@@ -2,7 +2,7 @@
 
 ghost use Rattle.std.specs.Prelude.{◌≡◌, ◌+◌, ◌<◌, ◌^◌, pos, ◌+ℤ◌, ◌-ℤ◌, ◌≤ℤ◌};
 ghost use Rattle.icescan_explain.specs.Counting.{IsFarFromLimits, bytes_in, counts_of, counts_with, has_cause};
-ghost use Rattle.icescan_explain.specs.Counting.{is_counted};
+ghost use Rattle.icescan_explain.specs.Counting.{is_counted, same_subject};
 
 use crate::verdict::{Fate, Subject, Verdict};
 
@@ -53,6 +53,9 @@ impl Counts {
         ensures least { (self.bytes -ℤ pos (2 ^ 63)) ≤ℤ result.bytes }
         ensures most { result.bytes ≤ℤ (self.bytes +ℤ pos (2 ^ 63)) }
     {
+        if !is_about(verdict, subject) {
+            return self;
+        }
         Counts {
             kept: self.kept + is_counted(verdict, subject, Cause::Kept) as usize,
             by_partition: self.by_partition
@@ -78,6 +81,12 @@ fn has_cause(fate: &Fate, cause: Cause) -> bool
         Fate::ByPartition(_) => cause == Cause::Partition,
         Fate::ByBounds(_) => cause == Cause::Bounds,
     }
+}
+
+fn is_about(verdict: &Verdict, subject: Subject) -> bool
+    ensures { result ≡ same_subject verdict.now.subject subject }
+{
+    verdict.subject == subject
 }
 
 fn is_counted(verdict: &Verdict, subject: Subject, cause: Cause) -> bool
