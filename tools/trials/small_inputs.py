@@ -20,6 +20,7 @@ import json
 import os
 import resource
 import signal
+import statistics
 import subprocess
 import sys
 import tempfile
@@ -328,7 +329,7 @@ CASES = [pipe_for_a_manifest, pipe_for_a_list, manifest_under_a_thousand_names, 
 
 # ---- growth
 
-FEWER, MORE, MOST_TIMES, MOST_OF_DATA = 6553, 65535, 10, 1.3
+FEWER, MORE, MOST_TIMES, MOST_OF_DATA, ROUNDS = 6553, 65535, 10, 1.3, 9
 
 
 def with_ids(content, part):
@@ -361,30 +362,30 @@ def growing(folder, manifests, content):
             out.write(data)
 
 
-def seconds_of(program, manifests, content, workers, times=1):
-    """The time of a run: the least of three stretches of so many runs each. A short run meets a quiet moment of a busy
-    machine more easily than a long one, so those that are compared are made as long as each other."""
-    with tempfile.TemporaryDirectory() as folder:
-        growing(folder, manifests, content)
-        words = ["plan", "--dir", folder, "--prefix", "mem://t", "--workers", str(workers), "mem://t/t"]
-        took = [[run(program, words) for _ in range(times)] for _ in range(3)]
-    assert all(status == 0 for stretch in took for status, _, _ in stretch), took
-    return min(sum(seconds for _, _, seconds in stretch) / times for stretch in took)
-
-
 def growth(program):
-    """How many of its runs grow faster than their tables."""
-    over = 0
-    for workers in (1, 4):
-        fewer = seconds_of(program, FEWER, 2, workers, MORE // FEWER)
-        more = seconds_of(program, MORE, 2, workers)
-        data = seconds_of(program, MORE, 0, workers)
-        of_data = more / (10 * MORE + 1000) / (data / (10 * MORE))
-        bad = more > MOST_TIMES * fewer * MORE / (10 * FEWER) or of_data > MOST_OF_DATA
-        over += bad
-        print(f"{'OVER ' if bad else '     '}growth plan by {workers}: {FEWER} manifests of delete files {fewer:.2f} s, "
-              f"{MORE} of them {more:.2f} s, {more / fewer:.1f} times; an entry takes {of_data:.2f} times what one of "
-              "data files does", flush=True)
+    """How many of its runs grow faster than their tables. Runs of all tables take turns, those of the smallest so many
+    times, and medians are compared, since a machine is busy now and then."""
+    tables, over = [(FEWER, 2, MORE // FEWER), (MORE, 2, 1), (MORE, 0, 1)], 0
+    with tempfile.TemporaryDirectory() as place:
+        folders = [os.path.join(place, str(at)) for at in range(len(tables))]
+        for folder, (manifests, content, _) in zip(folders, tables):
+            os.mkdir(folder)
+            growing(folder, manifests, content)
+        for workers in (1, 4):
+            took = [[] for _ in tables]
+            for _ in range(ROUNDS):
+                for folder, (_, _, times), seconds in zip(folders, tables, took):
+                    words = ["plan", "--dir", folder, "--prefix", "mem://t", "--workers", str(workers), "mem://t/t"]
+                    runs = [run(program, words) for _ in range(times)]
+                    assert all(status == 0 for status, _, _ in runs), runs
+                    seconds.append(sum(spent for _, _, spent in runs) / times)
+            fewer, more, data = map(statistics.median, took)
+            of_data = more / (10 * MORE + 1000) / (data / (10 * MORE))
+            bad = more > MOST_TIMES * fewer * MORE / (10 * FEWER) or of_data > MOST_OF_DATA
+            over += bad
+            print(f"{'OVER ' if bad else '     '}growth plan by {workers}: {FEWER} manifests of delete files {fewer:.2f} s, "
+                  f"{MORE} of them {more:.2f} s, {more / fewer:.1f} times; an entry takes {of_data:.2f} times what one of "
+                  "data files does", flush=True)
     return over
 
 
