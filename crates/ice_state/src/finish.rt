@@ -272,7 +272,6 @@ fn stretches_looked_up(
             let entry = entries.entry(files[first]);
             push_places(&mut places, &mut finder, ranks, &entry)?;
             places.push_again(first, end - first - 1)?;
-            recent.remember(entries, files, first);
         }
         first = end;
     }

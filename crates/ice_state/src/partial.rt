@@ -402,6 +402,7 @@ impl Partial {
             numbered,
         })
     }
+
     /// The same as `into_plan` by so many workers, each in a thread of its own where one can be started.
     pub fn into_plan_by<R: Threads + Sync>(
         self,

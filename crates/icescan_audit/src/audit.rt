@@ -21,6 +21,9 @@ use icescan_text::{RunFault, read_file_into};
 use std::alloc::{AllocError, Global};
 use std::thread::Threads;
 
+/// How many live files are worth a thread, at the least.
+const WORTH: usize = 4096;
+
 /// What was found of a snapshot.
 #[derive(Debug, Drop)]
 pub struct Audit {
@@ -72,7 +75,7 @@ impl Reading {
         })
     }
 
-    /// The same, by so many workers.
+    /// The same, by so many workers at most.
     pub fn whole_by_workers<R: Threads + Sync>(
         self,
         rt: &R,
@@ -88,6 +91,7 @@ impl Reading {
             mut findings,
             live,
         } = self;
+        let workers = workers.min(live.as_slice().len() / WORTH);
         push_delete_findings_by_workers(rt, alloc, &mut findings, live.as_slice(), workers)?;
         let false_totals = false_totals(alloc, said, live.as_slice())?;
         push_repeats_by_workers(rt, alloc, &mut findings, live.into_vec(), workers)?;

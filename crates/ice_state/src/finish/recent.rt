@@ -28,35 +28,24 @@ impl Recent {
         })
     }
 
-    /// The place of a file before this one that is like it, where it is remembered.
-    pub fn like(&self, entries: &Segments, files: &[FileNumber], place: usize) -> Option<usize>
+    /// The place of a file before this one that is like it, where it is remembered; else this one is remembered.
+    pub fn like(&mut self, entries: &Segments, files: &[FileNumber], place: usize) -> Option<usize>
         requires files { AreKept entries.now files.now }
         requires place { place < length files.now }
         ensures { IfSome result (IsLikeBefore entries.now files.now place) }
     {
         let slot = slot_of(&entries.entry(files[place]));
-        let Some(noted) = self.places.get(slot) else {
+        let Some(noted) = self.places.get_mut(slot) else {
             return None;
         };
         let other = *noted as usize;
         if other < place && entries.are_alike(files[other], files[place]) {
             return Some(other);
         }
-        None
-    }
-
-    /// Remembers the place of a file that was looked up.
-    pub fn remember(&mut self, entries: &Segments, files: &[FileNumber], place: usize)
-        requires files { AreKept entries.now files.now }
-        requires place { place < length files.now }
-    {
-        let slot = slot_of(&entries.entry(files[place]));
-        let Ok(number) = u32::try_from(place) else {
-            return;
-        };
-        if let Some(noted) = self.places.get_mut(slot) {
+        if let Ok(number) = u32::try_from(place) {
             *noted = number;
         }
+        None
     }
 }
 
